@@ -1,0 +1,14 @@
+pub mod Choices
+pub mod Follows
+pub mod Fronts
+pub mod Lexemes
+pub mod Readings
+pub mod Repetitions
+pub mod Sequences
+pub mod Spans
+pub mod Steps
+pub mod Symbols
+pub mod Taken
+pub mod Texts
+pub mod TokenReadings
+pub mod Turns

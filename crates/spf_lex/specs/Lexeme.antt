@@ -1,0 +1,32 @@
+-- The lexemes, which are words, numbers and symbols, and the token at the front of a text.
+use Rattle.std.specs.Prelude.{ℕ, ◌≤◌, ◌<◌, ◌+◌, ◌-◌, ◌*◌, ◌^◌, ◌⊎◌, List, [], ◌∷◌, length, take, fold, map, codes, All, Contains}
+use Rattle.spf_base.specs.Word.{IsWord, IsDigit}
+use Rattle.spf_lex.specs.Front.{IsLongest}
+
+-- digits, and at least one
+pub record IsNumber (bytes : List ℕ) : Type 0 where
+  pub some : 0 < length bytes
+  pub digits : All IsDigit bytes
+
+-- the value of a run of digits
+abbrev pub value_of : List ℕ → ℕ
+value_of digits = fold (λ value digit. 10 * value + (digit - 48)) 0 digits
+
+-- the symbols, those of two bytes and then those of one
+abbrev pub symbols : List (List ℕ)
+symbols =
+    codes "->" ∷ codes ".." ∷ codes "+=" ∷ codes "==" ∷ codes "!=" ∷ codes "<=" ∷ codes ">=" ∷ map (λ b. b ∷ []) (codes "{}[](),;:=+-*<>|")
+
+-- a word, a number or a symbol, of any length
+abbrev pub IsLexeme : List ℕ → Type 0
+IsLexeme bytes = IsWord bytes ⊎ (IsNumber bytes ⊎ Contains symbols bytes)
+
+-- a word has at most 32 bytes, and a number is at most 2 ^ 63
+pub record IsInLimits (bytes : List ℕ) : Type 0 where
+  pub word : IsWord bytes → length bytes ≤ 32
+  pub number : IsNumber bytes → value_of bytes ≤ 2 ^ 63
+
+-- the longest lexeme at the front of the text has n bytes, and is in its limits
+pub record IsToken (text : List ℕ) (n : ℕ) : Type 0 where
+  pub lexeme : IsLongest IsLexeme text n
+  pub limits : IsInLimits (take n text)

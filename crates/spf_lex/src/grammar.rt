@@ -1,0 +1,33 @@
+//! Grammars as data over kinds of tokens, and one theorem on reading for all of them.
+//!
+//! A grammar is a value of `Grammar`, built of `Nothing`, `One`, `Then`, `Or` and `Many`, and `In` says which lists of
+//! kinds are its texts. `run` is a reader that looks at the next token alone, and `is_clear` is a test that says that
+//! this is enough. It computes: a crate shows it of its own grammar by `refl`.
+
+ghost use Rattle.std.specs.Prelude.{◌≡◌, ◌↔◌, Bool, true, List, [], Ok};
+ghost use Rattle.spf_lex.specs.Grammar.{Grammar, In, IsReading, IsExact};
+ghost use Rattle.spf_lex.specs.LookAhead.{is_clear};
+ghost use Rattle.spf_lex.specs.Reading.{run};
+
+/// What a grammar tells apart of a token. Two kinds are the same only if they are one value.
+pub trait TokenKind: Copy {
+    ghost same: { Self → Self → Bool };
+
+    /// Whether the token is of the other kind.
+    fn is(self, other: Self) -> bool
+        ensures { result ≡ same self other };
+
+    ghost exact: { IsExact same };
+}
+
+/// A law, which does nothing when it is called: a clear grammar is read exactly.
+///
+/// The reader takes as many kinds as some text of the grammar begins with, and answers `Ok` only where they are a text.
+pub fn reading_is_exact<K: TokenKind>()
+    // the longest front that some text begins with is in front of the rest, and the answer says whether it is a text
+    ensures reading { (grammar : Grammar K) (kinds : List K) → is_clear K.same grammar ≡ true →
+        IsReading grammar kinds (run K.same grammar kinds) }
+    // the texts are the lists that are read to their end
+    ensures whole { (grammar : Grammar K) (kinds : List K) → is_clear K.same grammar ≡ true →
+        (In grammar kinds ↔ (run K.same grammar kinds ≡ Ok [])) }
+{}

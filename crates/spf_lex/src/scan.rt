@@ -1,0 +1,62 @@
+//! From a text to its tokens.
+
+ghost use Rattle.std.specs.Prelude.{◌≡◌, ◌≤◌, ℕ, List, length, IfOk, IfErr};
+ghost use Rattle.spf_lex.specs.LexFault.{IsFaultOf};
+ghost use Rattle.spf_lex.specs.Tokens.{HasTokens, LacksToken};
+ghost use Rattle.spf_lex.specs.declared.token_list.Span.{Span};
+
+use crate::gap::gap_len;
+use crate::lexeme::token_len;
+use crate::place::place_at;
+use crate::token_list::{Span, Tokens};
+use spf_base::Place;
+use std::alloc::Global;
+use thiserror::Error;
+
+/// Why a text has no tokens.
+#[derive(Debug, Drop, Error)]
+pub enum LexFault {
+    /// At this place, the first such, stands no token, and nothing that may stand between tokens.
+    #[error("no token at {}:{}", .place.line, .place.column)]
+    NoToken { place: Place },
+    /// Want of memory, which no contract foretells.
+    #[error("memory")]
+    Memory,
+}
+
+/// A law, which does nothing when it is called: a text has tokens in one way, or lacks one at one place, and not both.
+pub fn one_reading()
+    ensures tokens { (text : List ℕ) (a b : List Span) → HasTokens text a → HasTokens text b → a ≡ b }
+    ensures fault { (text : List ℕ) (m n : ℕ) → LacksToken text m → LacksToken text n → m ≡ n }
+    ensures either { (text : List ℕ) (a : List Span) (n : ℕ) → HasTokens text a → ¬ LacksToken text n }
+{}
+
+/// The tokens of a text, in one pass. Linear in the text, and 8 bytes are kept for each token.
+pub fn tokens(alloc: Global, text: &[u8]) -> Result<Tokens<'_>, LexFault>
+    requires { length text.now ≤ 67108864 }
+    ensures text { IfOk result (λ tokens. tokens.text ≡ text.now) }
+    ensures found { IfOk result (λ tokens. HasTokens text.now tokens.spans) }
+    ensures fault { IfErr result (IsFaultOf text.now) }
+{
+    let mut spans = Vec::new(alloc);
+    let mut at = 0;
+    while at < text.len() {
+        let rest = &text[at..];
+        if let Some(len) = gap_len(rest) {
+            at += len;
+        } else if let Some(len) = token_len(rest) {
+            let end = at + len;
+            let span = Span {
+                start: at as u32,
+                end: end as u32,
+            };
+            spans.push(span).map_err(|_| LexFault::Memory)?;
+            at = end;
+        } else {
+            return Err(LexFault::NoToken {
+                place: place_at(text, at),
+            });
+        }
+    }
+    Ok(Tokens::new(text, spans))
+}

@@ -1,0 +1,3 @@
+mod grammar;
+mod letter;
+mod tokens;
