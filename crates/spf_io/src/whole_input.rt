@@ -31,7 +31,9 @@ pub enum ReadAll {
 /// All the bytes of a source, to the end of input. Linear in the bytes, with at most one read of the source for each
 /// byte and one for the end.
 pub fn read_all<S: Source>(alloc: Global, source: &mut S) -> Result<Vec<u8>, ReadAll>
+    // All that the source held, and nothing is left.
     ensures all { IfOk result (λ bytes. Takes (S.held source.old) bytes.items (S.held source.new)) }
+    ensures whole { IfOk result (λ bytes. IfSome (S.held source.old) (λ held. held ≡ bytes.items)) }
     ensures to_the_end { OnOk result (IfSome (S.held source.new) (λ rest. rest ≡ [])) }
     ensures within { IfOk result (λ bytes. length bytes.items ≤ MAX_BYTES) }
 

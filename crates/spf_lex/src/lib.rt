@@ -27,7 +27,7 @@ pub use grammar::{TokenKind, reading_is_exact};
 pub use lexeme::number;
 pub use scan::{LexFault, one_reading, tokens};
 pub use text_kind::TextKind;
-pub use token_list::Tokens;
+pub use token_list::{Span, Tokens};
 
 #[cfg(test)]
 mod tests;

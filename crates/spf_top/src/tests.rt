@@ -1,0 +1,148 @@
+use super::*;
+use spf_io::{MemSink, MemSource};
+use std::alloc::Global;
+use std::test::Fail;
+
+const INCREMENT: &[u8] =
+    b"spf 1\nkernel { param n; data x[n]; steps 1; loop a (i in 0 .. n) { x[i] = x[i] + 1; } }\nscript { }\ninput { n = 3; x = 1 2 3; }\n";
+
+/// What a run of `command` left: its outcome, its text and its line.
+#[derive(Drop)]
+struct Ran {
+    outcome: Outcome,
+    out: Vec<u8>,
+    err: Vec<u8>,
+}
+
+/// Runs the words on an input in pieces of 16, of which calls fail as listed, to a sink of room 100 in pieces of 3.
+fn run(
+    alloc: Global,
+    words: &[&str],
+    input: &[u8],
+    read_faults: &[u32],
+    write_faults: &[u32],
+) -> Result<Ran, Fail> {
+    let mut owned = Vec::new(alloc);
+    for word in words {
+        owned.push(String::from_str(alloc, word)?)?;
+    }
+    let mut source = MemSource::new(
+        Vec::from_slice(alloc, input)?,
+        16,
+        Vec::from_slice(alloc, read_faults)?,
+    );
+    let mut out = MemSink::new(alloc, 100, 3, Vec::from_slice(alloc, write_faults)?)?;
+    let mut err = MemSink::new(alloc, 100, 16, Vec::new(alloc))?;
+    let outcome = command(alloc, &owned, &mut source, &mut out, &mut err);
+    Ok(Ran {
+        outcome,
+        out: Vec::from_slice(alloc, out.written())?,
+        err: Vec::from_slice(alloc, err.written())?,
+    })
+}
+
+#[test]
+fn bundles_of_the_first_form_are_run(rt: HostRuntime) -> Result<(), Fail> {
+    let rows: [(&[u8], &[u8]); 7] = [
+        (INCREMENT, b"x 2 3 4\n"),
+        (
+            b"spf 1 kernel { param n; data x[n]; steps 1; loop a (i in 0 .. n) { x[i] = x[i] + 1; } } script { } input { n = 2; x = 9223372036854775807 -9223372036854775808; }",
+            b"x -9223372036854775808 -9223372036854775807\n",
+        ),
+        (
+            b"spf 1 kernel { param n; data x[n]; steps 0; loop a (i in 0 .. n) { x[i] = x[i] + 1; } } script { } input { n = 0; x = ; }",
+            b"x\n",
+        ),
+        (
+            b"spf 01 kernel{param n;data x[n];steps 3;loop a(i in 1..n){x[i]=x[i]+10;}}script{}input{n=3;x=-1 0 5;}# no line feed",
+            b"x -1 30 35\n",
+        ),
+        (
+            b"spf 1 kernel { param n; data x[n]; steps 4; loop a (i in 0 .. n) { } } script { } input { n = 2; x = -0 007; }",
+            b"x 0 7\n",
+        ),
+        (
+            b"spf 1 kernel { param n; data x[n]; steps 2; loop a (i in 5 .. n) { x[i] = x[i] + 1; } } script { } input { n = 1; x = 4; }",
+            b"x 4\n",
+        ),
+        (
+            b"spf 1 kernel { param n; data x[n]; steps 1; loop a (i in 0 .. n) { x[i] = x[i] + 9223372036854775808; } } script { } input { n = 1; x = 1; }",
+            b"x -9223372036854775807\n",
+        ),
+    ];
+    for (input, text) in rows {
+        let ran = run(rt.alloc(), &["run"], input, &[], &[])?;
+        assert_eq!(rt; ran.outcome, Outcome::Done);
+        assert_eq!(rt; ran.out.as_slice(), text);
+        assert!(rt; ran.err.is_empty());
+    }
+    Ok(())
+}
+
+#[test]
+fn other_inputs_wait_for_later(rt: HostRuntime) -> Result<(), Fail> {
+    let rows: [&[u8]; 9] = [
+        b"",
+        b"spf 2 kernel { param n; data x[n]; steps 1; loop a (i in 0 .. n) { } } script { } input { n = 0; x = ; }",
+        b"spf 1 kernel { param n; data x[n]; steps 1; loop a (i in 0 .. n) { } } script { } input { n = 0; x = ; } spf",
+        b"spf 1 kernel { param n; data x[n]; steps 1; loop a (i in 0 .. n) { } } script { } input { n = 1; x = ; }",
+        b"spf 1 kernel { param n; data x[n]; steps 1; loop a (i in 0 .. n) { } } script { } input { n = 1; x = 9223372036854775808; }",
+        b"spf 1 kernel { param n; data x[n]; steps 1; loop a (i in 0 .. n) { } } script { } input { n = 1; x = - ; }",
+        b"spf 1 kernel { param n; data x[n]; steps 4194305; loop a (i in 0 .. n) { } } script { } input { n = 0; x = ; }",
+        b"spf 1 kernel { param n; data x[n]; steps 4194304; loop a (i in 0 .. n) { } } script { } input { n = 2; x = 1 2; }",
+        b"spf 1 kernel { param n; data x[n]; steps 1; loop a (i in 0 .. n) { @ } } script { } input { n = 0; x = ; }",
+    ];
+    for input in rows {
+        let ran = run(rt.alloc(), &["run"], input, &[], &[])?;
+        assert_eq!(rt; ran.outcome, Outcome::Later);
+        assert!(rt; ran.out.is_empty());
+        assert_eq!(rt; ran.err.as_slice(), b"later\n".as_slice());
+    }
+    Ok(())
+}
+
+#[test]
+fn a_refused_word_is_named(rt: HostRuntime) -> Result<(), Fail> {
+    let rows: [(&[&str], u32, &[u8]); 4] = [
+        (&[], 1, b"usage: word 1\n"),
+        (&["walk"], 1, b"usage: word 1\n"),
+        (&["run", "--trace"], 2, b"usage: word 2\n"),
+        (&["run", "run", "run"], 2, b"usage: word 2\n"),
+    ];
+    for (words, word, line) in rows {
+        let ran = run(rt.alloc(), words, INCREMENT, &[], &[])?;
+        assert_eq!(rt; ran.outcome, Outcome::Usage { word });
+        assert!(rt; ran.out.is_empty());
+        assert_eq!(rt; ran.err.as_slice(), line);
+    }
+    Ok(())
+}
+
+#[test]
+fn devices_that_fail_are_told(rt: HostRuntime) -> Result<(), Fail> {
+    let read = run(rt.alloc(), &["run"], INCREMENT, &[1], &[])?;
+    assert_eq!(rt; read.outcome, Outcome::ReadFault);
+    assert!(rt; read.out.is_empty());
+    assert_eq!(rt; read.err.as_slice(), b"read fault\n".as_slice());
+
+    let write = run(rt.alloc(), &["run"], INCREMENT, &[], &[1])?;
+    assert_eq!(rt; write.outcome, Outcome::WriteFault);
+    assert_eq!(rt; write.out.as_slice(), b"x 2".as_slice());
+    assert_eq!(rt; write.err.as_slice(), b"write fault\n".as_slice());
+    Ok(())
+}
+
+#[test]
+fn each_outcome_has_its_status(rt: HostRuntime) {
+    let rows = [
+        (Outcome::Done, 0),
+        (Outcome::Memory, 1),
+        (Outcome::Usage { word: 1 }, 2),
+        (Outcome::ReadFault, 3),
+        (Outcome::WriteFault, 4),
+        (Outcome::Later, 14),
+    ];
+    for (outcome, wanted) in rows {
+        assert_eq!(rt; status(&outcome), wanted);
+    }
+}
