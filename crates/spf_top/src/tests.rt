@@ -102,6 +102,21 @@ fn other_inputs_wait_for_later(rt: HostRuntime) -> Result<(), Fail> {
 }
 
 #[test]
+fn one_byte_more_than_64_mib_waits_for_later(rt: HostRuntime) -> Result<(), Fail> {
+    let mut words = Vec::new(rt.alloc());
+    words.push(String::from_str(rt.alloc(), "run")?)?;
+    let spaces = vec![in rt.alloc(); b' '; 67_108_865]?;
+    let mut source = MemSource::new(spaces, u32::MAX, Vec::new(rt.alloc()));
+    let mut out = MemSink::new(rt.alloc(), 100, 3, Vec::new(rt.alloc()))?;
+    let mut err = MemSink::new(rt.alloc(), 100, 16, Vec::new(rt.alloc()))?;
+    let outcome = command(rt.alloc(), &words, &mut source, &mut out, &mut err);
+    assert_eq!(rt; outcome, Outcome::Later);
+    assert!(rt; out.written().is_empty());
+    assert_eq!(rt; err.written(), b"later\n".as_slice());
+    Ok(())
+}
+
+#[test]
 fn a_refused_word_is_named(rt: HostRuntime) -> Result<(), Fail> {
     let rows: [(&[&str], u32, &[u8]); 4] = [
         (&[], 1, b"usage: word 1\n"),

@@ -1,0 +1,25 @@
+# What a user and a change call. `rt` is the toolchain's command; it proves before it builds.
+.PHONY: run test spf try cases
+
+# The program, proved and built, on the first example.
+run:
+	cd crates/spf_prog && rt run -- run < ../../examples/increment.spf
+
+# All tests: the merge gate (proofs, must-fail edits, unit tests, stored runs), and then the program's own cases.
+test:
+	rt ci
+	$(MAKE) --no-print-directory cases
+
+# The proved program as bin/spf.
+spf:
+	cd crates/spf_prog && rt run -- run < ../../examples/increment.spf > /dev/null
+	mkdir -p bin
+	cp crates/spf_prog/out/spf_prog bin/spf
+
+# A build without proofs on the first example, for a first look.
+try:
+	cd crates/spf_prog && rt try -- run < ../../examples/increment.spf
+
+# The program on each folder of cases/.
+cases: spf
+	cases/run bin/spf
