@@ -1,0 +1,11 @@
+pub mod Events
+pub mod Feet
+pub mod Induction
+pub mod MarkSteps
+pub mod Marks
+pub mod Runs
+pub mod TilesInTurn
+pub mod SoundTests
+pub mod StateSteps
+pub mod Tiles
+pub mod Unordered

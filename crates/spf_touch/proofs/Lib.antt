@@ -1,0 +1,9 @@
+pub mod Blends
+pub mod Classes
+pub mod Lifting
+pub mod Members
+pub mod Noted
+pub mod OpEffects
+pub mod Orders
+pub mod Rows
+pub mod Swaps

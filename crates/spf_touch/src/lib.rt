@@ -1,0 +1,30 @@
+//! What a unit of work touches, when two units conflict, and what a unit may do to the cells.
+//!
+//! It stands on the wrapping arithmetic of spf_base. Upward it gives two contracts: `conflict` is true exactly where two
+//! touch lists clash at some element (`Conflict`), and whatever implements `Units` keeps the frame law (`FrameLaw`), so
+//! that units may be reordered and run on copies. `conflict` costs the product of the two lengths, a run what its unit
+//! costs, and the other calls are constant but for `OpUnits::of`.
+#![tactic(auto)]
+
+mod blend;
+mod cells;
+mod class;
+mod conflicts;
+mod laws;
+mod op;
+mod op_units;
+mod perform;
+mod touch;
+mod touches;
+mod units;
+
+pub use blend::blend_laws;
+pub use cells::Cells;
+pub use class::Class;
+pub use conflicts::conflict;
+pub use laws::{any_legal_order, work_on_a_copy};
+pub use op::Op;
+pub use op_units::OpUnits;
+pub use touch::Touch;
+pub use touches::Touches;
+pub use units::Units;
