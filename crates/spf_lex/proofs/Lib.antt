@@ -1,10 +1,14 @@
 pub mod Choices
+pub mod Derivations
+pub mod Derived
 pub mod Follows
 pub mod Fronts
 pub mod Lexemes
+pub mod Numerals
 pub mod Readings
 pub mod Repetitions
 pub mod Sequences
+pub mod Showing
 pub mod Spans
 pub mod Steps
 pub mod Symbols

@@ -1,5 +1,7 @@
 -- The lexemes, which are words, numbers and symbols, and the token at the front of a text.
-use Rattle.std.specs.Prelude.{ℕ, ◌≤◌, ◌<◌, ◌+◌, ◌-◌, ◌*◌, ◌^◌, ◌⊎◌, List, [], ◌∷◌, length, take, fold, map, codes, All, Contains}
+use Rattle.std.specs.Prelude.{ℕ, ◌≤◌, ◌<◌, ◌+◌, ◌-◌, ◌*◌, ◌^◌, ◌⊎◌, List, [], ◌∷◌, length, take, fold, map, codes, All, Contains, Bool, not, ◌&&◌, ◌==◌, nat_le, Option, Some, None, if◌then◌else◌}
+use Rattle.std.specs.Char.{is_ascii_digit}
+use Rattle.std.specs.List.{list_all}
 use Rattle.spf_base.specs.Word.{IsWord, IsDigit}
 use Rattle.spf_lex.specs.Front.{IsLongest}
 
@@ -11,6 +13,14 @@ pub record IsNumber (bytes : List ℕ) : Type 0 where
 -- the value of a run of digits
 abbrev pub value_of : List ℕ → ℕ
 value_of digits = fold (λ value digit. 10 * value + (digit - 48)) 0 digits
+
+-- the bytes are digits, and at least one, of a value that a token may have
+abbrev pub is_numeral : List ℕ → Bool
+is_numeral text = not (length text == 0) && list_all is_ascii_digit text && nat_le (value_of text) (2 ^ 63)
+
+-- the value of a token that is a number
+abbrev pub number_of : List ℕ → Option ℕ
+number_of text = if is_numeral text then Some (value_of text) else None
 
 -- the symbols, those of two bytes and then those of one
 abbrev pub symbols : List (List ℕ)

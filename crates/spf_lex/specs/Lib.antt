@@ -1,3 +1,4 @@
+pub mod Derivation
 pub mod Front
 pub mod Grammar
 pub mod LexFault

@@ -8,6 +8,7 @@ ghost use Rattle.std.specs.Prelude.{◌≡◌, ◌↔◌, Bool, true, List, [], 
 ghost use Rattle.spf_lex.specs.Grammar.{Grammar, In, IsReading, IsExact};
 ghost use Rattle.spf_lex.specs.LookAhead.{is_clear};
 ghost use Rattle.spf_lex.specs.Reading.{run};
+ghost use Rattle.spf_lex.specs.Derivation.{Derivation, Spells, derive, IsDerivation};
 
 /// What a grammar tells apart of a token. Two kinds are the same only if they are one value.
 pub trait TokenKind: Copy {
@@ -30,4 +31,14 @@ pub fn reading_is_exact<K: TokenKind>()
     // the texts are the lists that are read to their end
     ensures whole { (grammar : Grammar K) (kinds : List K) → is_clear K.same grammar ≡ true →
         (In grammar kinds ↔ (run K.same grammar kinds ≡ Ok [])) }
+{}
+
+/// A law, which does nothing when it is called: a text of a clear grammar has one derivation, and it is read exactly.
+pub fn derivation_is_exact<K: TokenKind, T>()
+    // reading stops where `run` does, and the tokens that it took are the text with the derivation that it gives
+    ensures derivation { (kind : T → K) (grammar : Grammar K) (tokens : List T) → is_clear K.same grammar ≡ true →
+        IsDerivation kind grammar tokens (derive K.same kind grammar tokens) }
+    // a text is derived in one way
+    ensures one { (kind : T → K) (grammar : Grammar K) (tokens : List T) (a b : Derivation T grammar) →
+        is_clear K.same grammar ≡ true → Spells kind grammar tokens a → Spells kind grammar tokens b → a ≡ b }
 {}

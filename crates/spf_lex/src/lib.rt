@@ -10,7 +10,8 @@
 //! A grammar is data over kinds of tokens (`Grammar`), with a declarative relation (`In`), a reader that looks at the
 //! next token alone (`run`), and a test that computes and says that this is enough (`is_clear`). One theorem serves
 //! every grammar (`reading_is_exact`): what is read is in the relation, and where reading stops stands the first token
-//! behind the longest front that begins some text of the grammar.
+//! behind the longest front that begins some text of the grammar. A text has one derivation (`Derivation`, `Spells`), from
+//! which a crate defines what its texts mean, one case for each production (`derivation_is_exact`).
 //!
 //! The crate stands on spf_base, for words, places and want of memory.
 #![tactic(auto)]
@@ -23,7 +24,7 @@ mod scan;
 mod text_kind;
 mod token_list;
 
-pub use grammar::{TokenKind, reading_is_exact};
+pub use grammar::{TokenKind, derivation_is_exact, reading_is_exact};
 pub use lexeme::number;
 pub use scan::{LexFault, one_reading, tokens};
 pub use text_kind::TextKind;

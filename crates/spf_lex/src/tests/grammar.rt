@@ -45,6 +45,7 @@ fn nested_lists_are_read_to_their_end()
 
 #[test]
 fn a_letter_is_itself_alone(rt: HostRuntime) {
+    derivation_is_exact::<Letter, Letter>();
     planted_ambiguities_are_not_clear();
     nested_lists_are_read_exactly();
     nested_lists_are_read_to_their_end();

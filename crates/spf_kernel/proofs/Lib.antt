@@ -1,0 +1,9 @@
+pub mod Agreement
+pub mod Clear
+pub mod KernelAgreement
+pub mod KernelReading
+pub mod LoopAgreement
+pub mod Numbered
+pub mod TokenKinds
+pub mod Turns
+pub mod ValueAgreement

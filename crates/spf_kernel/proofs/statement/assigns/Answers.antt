@@ -1,0 +1,18 @@
+use Rattle.std.proofs.Common.{rules, arith, sym}
+use Rattle.std.proofs.lemmas.Grind.{common_steps}
+use Rattle.spf_kernel.specs.declared.kind.Kind.TheVariants.{Name}
+use Rattle.spf_kernel.specs.Reader.{sees}
+use Rattle.spf_kernel.specs.Reading.{assign, assigns}
+use Rattle.spf_kernel.proofs.Turns.{at_first, goes_on}
+use Rattle.spf_kernel.proofs.statement.assigns.Goals as goal
+
+pub loop-turn-init : goal.loop-turn-init
+unfolding assigns
+loop-turn-init c =
+    let e = at_first (sees Name) assign c.args.tokens.now in
+    first_of (search rules, grind (arith, common_steps))
+
+pub loop-turn-preserved : goal.loop-turn-preserved
+loop-turn-preserved c =
+    rw c.in_ok-push.ensures.ok
+    (goes_on (sees Name) assign _ c.loop-turn.all _ c.loop-turn._turn c.loop-turn.tokens c.loop-turn.invariant c.loop-turn-test.true (sym c.if-not-sees.ensures) _ c.assign.new.tokens c.in_ok-next.ensures)
