@@ -41,7 +41,7 @@ module _ {K T : Type 0} (kind : T → K) where
       by_ends (k ∷ ks) e (inr on) = absurd (no_way_on same exact g h apart k ks ks (run same g (map kind front ++ k ∷ ks)) (rw e at q) (rw e at on))
 
     -- equal lists are split in one place where what is behind is as long
-    same_split : (a b c d : List T) → a ++ b ≡ c ++ d → length b ≡ length d → (a ≡ c) × (b ≡ d)
+    pub same_split : (a b c d : List T) → a ++ b ≡ c ++ d → length b ≡ length d → (a ≡ c) × (b ≡ d)
     same_split [] b [] d e l = (refl, e)
     same_split [] b (y ∷ c) d e l = absurd (omega (arith, ap length e, l, length-append c d))
     same_split (x ∷ a) b [] d e l = absurd (omega (arith, ap length e, l, length-append a b))

@@ -29,7 +29,7 @@ letter_no_symbol b letter symbol = symbol.no_letter letter
 digit_no_symbol : (b : ℕ) → IsDigit b → BeginsSymbol b → ⊥
 digit_no_symbol b digit symbol = symbol.no_digit digit
 
-word_no_number : (bytes : List ℕ) → IsWord bytes → IsNumber bytes → ⊥
+pub word_no_number : (bytes : List ℕ) → IsWord bytes → IsNumber bytes → ⊥
 word_no_number bytes word number =
     BeginsWith-apart IsLetter IsDigit letter_no_digit bytes (word_begins bytes word) (number_begins bytes number)
 
@@ -40,6 +40,14 @@ word_no_symbol bytes word symbol =
 number_no_symbol : (bytes : List ℕ) → IsNumber bytes → Contains symbols bytes → ⊥
 number_no_symbol bytes number symbol =
     BeginsWith-apart IsDigit BeginsSymbol digit_no_symbol bytes (number_begins bytes number) (symbol_begins bytes symbol)
+
+-- a lexeme that begins with a letter is a word
+pub lexeme_is_word : (bytes : List ℕ) → BeginsWith IsLetter bytes → IsLexeme bytes → IsWord bytes
+lexeme_is_word bytes letter (inl word) = word
+lexeme_is_word bytes letter (inr (inl number)) =
+    absurd (BeginsWith-apart IsLetter IsDigit letter_no_digit bytes letter (number_begins bytes number))
+lexeme_is_word bytes letter (inr (inr symbol)) =
+    absurd (BeginsWith-apart IsLetter BeginsSymbol letter_no_symbol bytes letter (symbol_begins bytes symbol))
 
 -- which kind of lexeme can stand at the front of a text, by the text's first byte
 
@@ -64,7 +72,7 @@ symbol_at text m no_letter no_digit (inr (inr symbol)) = symbol
 
 -- the longest lexeme
 
-word_bytes : (bytes : List ℕ) → IsWord bytes → All IsWordByte bytes
+pub word_bytes : (bytes : List ℕ) → IsWord bytes → All IsWordByte bytes
 word_bytes [] word = absurd word
 word_bytes (b ∷ bs) word = All-cons IsWordByte b bs (inl word.0) word.1
 

@@ -1,8 +1,11 @@
+pub mod Alone
 pub mod Choices
 pub mod Derivations
 pub mod Derived
 pub mod Follows
 pub mod Fronts
+pub mod Joining
+pub mod Leaves
 pub mod Lexemes
 pub mod Numerals
 pub mod Readings
@@ -16,3 +19,4 @@ pub mod Taken
 pub mod Texts
 pub mod TokenReadings
 pub mod Turns
+pub mod Written

@@ -1,6 +1,7 @@
 pub mod Derivation
 pub mod Front
 pub mod Grammar
+pub mod Joined
 pub mod LexFault
 pub mod Lexeme
 pub mod LookAhead

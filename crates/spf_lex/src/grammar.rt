@@ -4,9 +4,9 @@
 //! kinds are its texts. `run` is a reader that looks at the next token alone, and `is_clear` is a test that says that
 //! this is enough. It computes: a crate shows it of its own grammar by `refl`.
 
-ghost use Rattle.std.specs.Prelude.{◌≡◌, ◌↔◌, Bool, true, List, [], Ok};
+ghost use Rattle.std.specs.Prelude.{◌≡◌, ◌↔◌, Bool, true, List, [], ◌++◌, Ok, Err};
 ghost use Rattle.spf_lex.specs.Grammar.{Grammar, In, IsReading, IsExact};
-ghost use Rattle.spf_lex.specs.LookAhead.{is_clear};
+ghost use Rattle.spf_lex.specs.LookAhead.{extension, is_clear};
 ghost use Rattle.spf_lex.specs.Reading.{run};
 ghost use Rattle.spf_lex.specs.Derivation.{Derivation, Spells, derive, IsDerivation};
 
@@ -41,4 +41,13 @@ pub fn derivation_is_exact<K: TokenKind, T>()
     // a text is derived in one way
     ensures one { (kind : T → K) (grammar : Grammar K) (tokens : List T) (a b : Derivation T grammar) →
         is_clear K.same grammar ≡ true → Spells kind grammar tokens a → Spells kind grammar tokens b → a ≡ b }
+{}
+
+/// A law, which does nothing when it is called: where no text of a clear grammar begins with another one, as where a
+/// closing brace ends each, the text in front of some tokens is one, and no reading stops there at a fault.
+pub fn front_is_exact<K: TokenKind>()
+    ensures one { (grammar : Grammar K) (a b rest left : List K) → is_clear K.same grammar ≡ true → extension grammar ≡ [] →
+        In grammar a → In grammar b → a ++ rest ≡ b ++ left → a ≡ b }
+    ensures no_fault { (grammar : Grammar K) (front rest left : List K) → is_clear K.same grammar ≡ true → extension grammar ≡ [] →
+        In grammar front → ¬ IsReading grammar (front ++ rest) (Err left) }
 {}

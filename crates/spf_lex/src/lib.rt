@@ -13,6 +13,9 @@
 //! behind the longest front that begins some text of the grammar. A text has one derivation (`Derivation`, `Spells`), from
 //! which a crate defines what its texts mean, one case for each production (`derivation_is_exact`).
 //!
+//! What is printed is written word by word (`Words`), and its words are read again: a text of words with a blank between
+//! two has those words as its tokens (`joined_words_are_read`).
+//!
 //! The crate stands on spf_base, for words, places and want of memory.
 #![tactic(auto)]
 
@@ -23,12 +26,14 @@ mod place;
 mod scan;
 mod text_kind;
 mod token_list;
+mod words;
 
-pub use grammar::{TokenKind, derivation_is_exact, reading_is_exact};
+pub use grammar::{TokenKind, derivation_is_exact, front_is_exact, reading_is_exact};
 pub use lexeme::number;
-pub use scan::{LexFault, one_reading, tokens};
+pub use scan::{LexFault, joined_words_are_read, one_reading, tokens};
 pub use text_kind::TextKind;
 pub use token_list::{Span, Tokens};
+pub use words::Words;
 
 #[cfg(test)]
 mod tests;

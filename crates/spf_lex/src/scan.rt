@@ -1,8 +1,10 @@
 //! From a text to its tokens.
 
-ghost use Rattle.std.specs.Prelude.{◌≡◌, ◌≤◌, ℕ, List, length, IfOk, IfErr};
+ghost use Rattle.std.specs.Prelude.{◌≡◌, ◌≤◌, ◌^◌, ℕ, List, All, length, decimal, Some, IfOk, IfErr};
+ghost use Rattle.spf_lex.specs.Joined.{joined};
 ghost use Rattle.spf_lex.specs.LexFault.{IsFaultOf};
-ghost use Rattle.spf_lex.specs.Tokens.{HasTokens, LacksToken};
+ghost use Rattle.spf_lex.specs.Lexeme.{number_of};
+ghost use Rattle.spf_lex.specs.Tokens.{HasTokens, IsTokenText, IsTokenized, LacksToken, texts};
 ghost use Rattle.spf_lex.specs.declared.token_list.Span.{Span};
 
 use crate::gap::gap_len;
@@ -29,6 +31,17 @@ pub fn one_reading()
     ensures tokens { (text : List ℕ) (a b : List Span) → HasTokens text a → HasTokens text b → a ≡ b }
     ensures fault { (text : List ℕ) (m n : ℕ) → LacksToken text m → LacksToken text n → m ≡ n }
     ensures either { (text : List ℕ) (a : List Span) (n : ℕ) → HasTokens text a → ¬ LacksToken text n }
+{}
+
+/// A law, which does nothing when it is called: words with a blank between two have those words as tokens, and a number
+/// is such a word.
+pub fn joined_words_are_read()
+    ensures read { (words : List (List ℕ)) → All IsTokenText words → length (joined words) ≤ 67108864 →
+        (spans : List Span) × IsTokenized (joined words) spans × (texts (record { text = joined words; spans = spans }) ≡ words) }
+    // the same of texts of any length
+    ensures tokens { (words : List (List ℕ)) → All IsTokenText words →
+        (spans : List Span) × HasTokens (joined words) spans × (texts (record { text = joined words; spans = spans }) ≡ words) }
+    ensures number { (n : ℕ) → n ≤ 2 ^ 63 → IsTokenText (decimal n) × (number_of (decimal n) ≡ Some n) }
 {}
 
 /// The tokens of a text, in one pass. Linear in the text, and 8 bytes are kept for each token.

@@ -1,3 +1,4 @@
 mod grammar;
 mod letter;
 mod tokens;
+mod words;

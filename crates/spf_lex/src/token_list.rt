@@ -47,6 +47,7 @@ impl<'a> Tokens<'a> {
         ensures count { result ≡ length (texts self.now) }
         ensures tokens { HasTokens self.now.text self.now.spans }
         ensures texts { All IsTokenText (texts self.now) }
+        ensures lexed { IsTokenized self.now.text self.now.spans }
     {
         self.spans.len() as u32
     }
