@@ -181,3 +181,8 @@ pub kernel_clear : is_clear same_kind kernel ≡ true
 unfolding kernel is_clear nullable first extension
 kernel_clear = let d = decl_part in let x = ix_part 5 in let l = loop_part in
     simp (d.clear, d.some, d.starts, d.extends, x.clear, x.some, x.starts, x.extends, l.clear, l.some, l.starts, l.extends)
+
+-- no kernel begins with another one
+pub kernel_alone : extension kernel ≡ []
+unfolding kernel nullable extension
+kernel_alone = let x = ix_part 5 in simp x.some

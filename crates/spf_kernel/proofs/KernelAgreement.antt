@@ -13,7 +13,7 @@ use Rattle.spf_kernel.specs.RawTree.{ix_in}
 use Rattle.spf_kernel.specs.Reader.{◌>>=◌, pure, sees, expect, many}
 use Rattle.spf_kernel.specs.Reading as reading
 use Rattle.spf_kernel.proofs.Agreement.{Agrees, Begins, or_false, expect_agrees, choice_agrees, nothing_agrees, then_agrees, made_agrees, many_agrees, eat_one_agrees, ix_agrees}
-use Rattle.spf_kernel.specs.declared.raw.Trend.TheVariants.{Free, Monotone, Strict}
+use Rattle.spf_kernel.specs.declared.tree.Trend.TheVariants.{Free, Monotone, Strict}
 use Rattle.spf_kernel.specs.declared.raw.RawSized.{RawSized}
 use Rattle.spf_kernel.specs.declared.raw.RawDecl.TheVariants.{Params, Index, Values}
 use Rattle.spf_kernel.specs.declared.raw.RawKernel.{RawKernel}

@@ -19,7 +19,7 @@ use Rattle.spf_kernel.specs.IsKernel.{kind_of, kinds, IsKernel, AnswersKernel}
 use Rattle.spf_kernel.proofs.Clear.{kernel_clear}
 use Rattle.spf_kernel.proofs.KernelAgreement.{kernel_agrees}
 
-kinds_exact : IsExact same_kind
+pub kinds_exact : IsExact same_kind
 kinds_exact = λ a b. (same_true the_type tt a b, true_same the_type a b)
 
 abbrev tree_or : RawKernel → Outcome Token RawKernel → RawKernel

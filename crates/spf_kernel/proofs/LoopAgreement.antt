@@ -13,8 +13,8 @@ use Rattle.spf_kernel.specs.RawTree.{ix_in}
 use Rattle.spf_kernel.specs.Reader.{◌>>=◌, ◌<$>◌, pure, sees, expect, many}
 use Rattle.spf_kernel.specs.Reading as reading
 use Rattle.spf_kernel.proofs.Agreement.{Agrees, Begins, or_false, expect_agrees, choice_agrees, then_agrees, made_agrees, many_agrees, eat_one_agrees, ix_agrees}
-use Rattle.spf_kernel.specs.declared.raw.Compare.{Compare}
-use Rattle.spf_kernel.specs.declared.raw.Compare.TheVariants.{Equal, Unequal, Less, AtMost, Greater, AtLeast}
+use Rattle.spf_kernel.specs.declared.tree.Compare.{Compare}
+use Rattle.spf_kernel.specs.declared.tree.Compare.TheVariants.{Equal, Unequal, Less, AtMost, Greater, AtLeast}
 use Rattle.spf_kernel.specs.declared.raw.RawAssign.{RawAssign}
 use Rattle.spf_kernel.specs.declared.raw.RawCond.{RawCond}
 use Rattle.spf_kernel.specs.declared.raw.RawGuard.{RawGuard}

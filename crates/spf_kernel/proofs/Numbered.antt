@@ -1,8 +1,13 @@
 -- Tokens are numbered one after another.
-use Rattle.std.proofs.Common.{◌≡◌, ℕ, ◌+◌, ◌<◌, List, [], ◌∷◌, ◌++◌, length, take, get_or, ap, ◌∙◌, arith}
+use Rattle.std.proofs.Common.{◌≡◌, ℕ, ◌+◌, ◌<◌, List, [], ◌∷◌, ◌++◌, length, take, get_or, refl, ap, ◌∙◌, arith}
 use Rattle.std.proofs.lemmas.List.{take_more, length-take}
 use Rattle.spf_kernel.specs.Token.{token_of, numbered}
 use Rattle.spf_kernel.specs.declared.token.Token.{Token}
+
+-- there are as many tokens as texts
+pub numbered_length : (at : ℕ) (texts : List (List ℕ)) → length (numbered at texts) ≡ length texts
+numbered_length at [] = refl
+numbered_length at (text ∷ more) = let e = numbered_length (at + 1) more in omega (arith, e)
 
 numbered_push : (at : ℕ) (texts : List (List ℕ)) (text : List ℕ) → numbered at (texts ++ text ∷ []) ≡ numbered at texts ++ token_of (at + length texts) text ∷ []
 numbered_push at [] text = ap (λ (n : ℕ). token_of n text ∷ []) (grind arith)

@@ -24,10 +24,10 @@ use Rattle.spf_kernel.specs.declared.raw.RawRange.{RawRange}
 use Rattle.spf_kernel.specs.declared.raw.RawLoop.{RawLoop}
 use Rattle.spf_kernel.specs.declared.raw.RawSized.{RawSized}
 use Rattle.spf_kernel.specs.declared.raw.RawKernel.{RawKernel}
-use Rattle.spf_kernel.specs.declared.raw.Compare.{Compare}
-use Rattle.spf_kernel.specs.declared.raw.Compare.TheVariants.{Equal, Unequal, Less, AtMost, Greater, AtLeast}
-use Rattle.spf_kernel.specs.declared.raw.Trend.{Trend}
-use Rattle.spf_kernel.specs.declared.raw.Trend.TheVariants.{Free, Monotone, Strict}
+use Rattle.spf_kernel.specs.declared.tree.Compare.{Compare}
+use Rattle.spf_kernel.specs.declared.tree.Compare.TheVariants.{Equal, Unequal, Less, AtMost, Greater, AtLeast}
+use Rattle.spf_kernel.specs.declared.tree.Trend.{Trend}
+use Rattle.spf_kernel.specs.declared.tree.Trend.TheVariants.{Free, Monotone, Strict}
 use Rattle.spf_kernel.specs.declared.raw.RawPart.{RawPart}
 use Rattle.spf_kernel.specs.declared.raw.RawPart.TheVariants.{Assign, Guard}
 use Rattle.spf_kernel.specs.declared.raw.RawItem.{RawItem}

@@ -8,9 +8,10 @@ ghost use Rattle.spf_kernel.specs.Reading as reading;
 use crate::cursor::{Cursor, ReadFault};
 use crate::ix::{BRACKETS, in_brackets, ix};
 use crate::kind::Kind;
-use crate::raw::{RawDecl, RawKernel, RawSized, Trend};
+use crate::raw::{RawDecl, RawKernel, RawSized};
 use crate::statement::loops;
 use crate::token::Token;
+use crate::tree::Trend;
 use sqlite_items::Items;
 use std::alloc::Global;
 

@@ -1,29 +1,56 @@
-//! The kernel language: the kinds of its tokens, its grammar, and the raw tree that a kernel's tokens spell.
+//! The kernel language: its grammar, its eleven rules, the tree that a kernel means, and printing one.
 //!
 //! The grammar is data (`KernelGrammar`), production by production, with brackets 5 and parentheses 8 deep; it is clear,
 //! so that a look at the next token alone reads it. A text of it has one derivation, and each derivation a raw tree, one
-//! case for each production (`RawTree`), in which names and numbers are still the tokens that they stand at. Upward the
-//! crate gives one contract: `read_kernel` finds the kernel in front of the tokens with its tree, or stops at the first
-//! token behind the longest front that some kernel begins with (`AnswersKernel`), and tokens are a kernel with one tree
-//! (`one_raw_tree`).
+//! case for each production (`RawTree`), in which names and numbers are still the tokens that they stand at
+//! (`read_kernel`, `one_raw_tree`). What a raw tree says, one note behind another in the order of its text (`Notes`), is
+//! what the rules are about (`Rules`). Of a kernel that breaks none the names are resolved to numbers (`Resolved`).
 //!
-//! The crate stands on spf_lex for tokens and for the theorem on grammars, and on spf_base for want of memory. Reading
-//! is linear in the tokens, and its recursion is bounded by the two depths.
+//! Upward the crate gives one contract: `parse` answers the tree of the kernel that stands at a token and breaks no rule, or
+//! the exact fault of syntax, or the least place and the least rule that is broken there (`IsAnswer`); at most one kernel
+//! stands there (`one_kernel_stands`). A `Kernel` keeps that some text is parsed to it, and `print` gives the words of its
+//! tree (`Printed`).
+//!
+//! The crate stands on spf_lex for tokens, written words and the theorem on grammars, on spf_term for the terms that index
+//! expressions are, and on spf_base for names, places and want of memory; indexmap keeps the declared names. Parsing is
+//! linear in the tokens, and its recursion is bounded by the two depths.
 #![tactic(auto)]
 
+mod before;
+mod counts;
 mod cursor;
 mod declaration;
+mod fault;
+mod found;
 mod ix;
+mod kernel;
 mod kind;
+mod limits;
+mod name_rules;
+mod names;
+mod note;
+mod notes;
+mod print_list;
+mod print_statement;
+mod print_term;
+mod print_tree;
+mod print_value;
 pub mod raw;
 mod raw_kernel;
+mod resolve;
+mod rules;
 mod statement;
 mod token;
+pub mod tree;
+mod tree_names;
 mod value;
 
 pub use cursor::{Cursor, ReadFault};
+pub use fault::KernelFault;
+pub use found::one_kernel_stands;
+pub use kernel::{Kernel, parse, print};
 pub use kind::Kind;
-pub use raw_kernel::{one_raw_tree, read_kernel};
+pub use raw_kernel::{names_are_words, one_raw_tree, read_kernel};
 pub use token::{Token, classify};
 
 #[cfg(test)]

@@ -4,6 +4,7 @@
 //! gives the public one.
 
 use crate::token::Token;
+use crate::tree::{Compare, Trend};
 use sqlite_items::{Boxed, Items};
 
 /// An index expression: the monomials, one behind another.
@@ -86,17 +87,6 @@ pub struct RawAssign {
     pub value: RawValue,
 }
 
-/// How a condition compares its sides.
-#[derive(Clone, Copy, Debug, PartialEq, Eq)]
-pub enum Compare {
-    Equal,
-    Unequal,
-    Less,
-    AtMost,
-    Greater,
-    AtLeast,
-}
-
 #[derive(Debug, Drop)]
 pub struct RawCond {
     pub left: RawIx,
@@ -145,14 +135,6 @@ pub struct RawLoop {
 pub struct RawSized {
     pub name: Token,
     pub size: RawIx,
-}
-
-/// How the values of an index array go on.
-#[derive(Clone, Copy, Debug, PartialEq, Eq)]
-pub enum Trend {
-    Free,
-    Monotone,
-    Strict,
 }
 
 /// A declaration; the names of a list are the first and the others.

@@ -1,3 +1,6 @@
+mod parsing;
+mod printing;
+
 use super::*;
 use spf_lex::tokens;
 use std::alloc::Global;

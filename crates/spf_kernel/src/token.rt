@@ -1,6 +1,6 @@
 //! Tokens as the readers of a bundle see them.
 
-ghost use Rattle.std.specs.Prelude.{◌≡◌, IfOk};
+ghost use Rattle.std.specs.Prelude.{◌≡◌, length, IfOk};
 ghost use Rattle.spf_lex.specs.Tokens.{texts};
 ghost use Rattle.spf_kernel.specs.Token.{fixed_kind_of, token_of, tokens_of};
 
@@ -52,7 +52,8 @@ fn token_at(at: u32, text: &[u8]) -> Token
 
 /// The tokens of a text in their order. Linear in the text.
 pub fn classify(alloc: Global, tokens: &Tokens) -> Result<Vec<Token>, NoMemory>
-    ensures { IfOk result (λ all. all.items ≡ tokens_of (texts tokens.now)) }
+    ensures tokens { IfOk result (λ all. all.items ≡ tokens_of (texts tokens.now)) }
+    ensures count { IfOk result (λ all. length all.items ≡ length (texts tokens.now)) }
 {
     let mut all = Vec::new(alloc);
     for n in 0..tokens.len() {

@@ -1,0 +1,145 @@
+-- The first breach of the notes, with one note more.
+use Rattle.std.proofs.Common.{◌≡◌, ℕ, ◌+◌, ◌<◌, ◌≤◌, ◌==◌, Bool, true, false, cond, List, [], ◌∷◌, ◌++◌, length, map, slice_get, Option, None, Some, refl, ap, sym, ◌∙◌, subst, position, nat_lt, ◌||◌, ◌&&◌, ◌⊎◌, inl, inr, ⊎_elim, append_assoc, length-append, arith}
+use Rattle.std.proofs.lemmas.Bool.Decides.{nat_tests}
+use Rattle.std.specs.Option.{option_map}
+use Rattle.spf_kernel.specs.declared.token.Token.{Token}
+use Rattle.spf_kernel.specs.declared.note.Note.{Note}
+use Rattle.spf_kernel.specs.declared.note.Says.{Says}
+use Rattle.spf_kernel.specs.declared.rules.Breach.{Breach}
+use Rattle.spf_kernel.specs.Rules.{rules, has_capital, Breaks, IsFirstBreach, IsUnbroken}
+use Rattle.spf_kernel.specs.Checked.{least_rule, lesser, IsFirst}
+use Rattle.spf_kernel.proofs.Places.{position-map, none_passes, first_passes}
+
+-- a split of a list with one element more is at that element, or a split of the list
+pub data Splits {X : Type 0} (xs : List X) (new : X) (before : List X) (x : X) : Type 0 where
+  last : before ≡ xs → x ≡ new → Splits xs new before x
+  inside : (after : List X) → xs ≡ before ++ x ∷ after → Splits xs new before x
+
+-- the split of a list with `z` in front
+further : {X : Type 0} (z y : X) (zs ys : List X) (new x : X) → z ≡ y → Splits zs new ys x → Splits (z ∷ zs) new (y ∷ ys) x
+further z y zs ys new x e (last p q) = last (cc) q
+further z y zs ys new x e (inside after p) = inside after (cc)
+
+pub splits : {X : Type 0} (xs : List X) (new : X) (before : List X) (x : X) (after : List X) → xs ++ new ∷ [] ≡ before ++ x ∷ after → Splits xs new before x
+splits [] new [] x after e = last refl (cc)
+splits [] new (y ∷ ys) x after e = absurd (omega (arith, ap length e, length-append ys (x ∷ after)))
+splits (z ∷ zs) new [] x after e = inside zs (cc)
+splits (z ∷ zs) new (y ∷ ys) x after e =
+    let heads : z ≡ y = cc in
+    let tails : zs ++ new ∷ [] ≡ ys ++ x ∷ after = cc in
+    further z y zs ys new x heads (splits zs new ys x after tails)
+
+comes_before : (place rule q s : ℕ) → nat_lt place q || (place == q && nat_lt rule s) ≡ true → (place < q) ⊎ ((place ≡ q) × (rule < s))
+comes_before place rule q s e = grind (arith, nat_tests)
+
+comes_behind : (place rule q s : ℕ) → nat_lt place q || (place == q && nat_lt rule s) ≡ false → (q ≤ place) × (place ≡ q → s ≤ rule)
+comes_behind place rule q s e = (grind (arith, nat_tests), λ same. grind (arith, nat_tests))
+
+module _ (texts : List (List ℕ)) where
+  -- the note breaks the rule, behind those before
+  pub record Broken (before : List Note) (note : Note) (rule : ℕ) : Type 0 where
+    pub test : List Note → Token → Says → Bool
+    pub number : (n : ℕ) × (rule ≡ n + 1) × (slice_get (rules texts) n ≡ Some test)
+    pub broken : test before note.token note.says ≡ true
+
+  module _ (notes : List Note) (note : Note) where
+    pub breaks_here : (rule : ℕ) → Broken notes note rule → Breaks texts (notes ++ note ∷ []) note.token.at rule
+    breaks_here rule b = record { before = notes; note = note; after = []; splits = refl; there = refl; test = b.test; number = b.number; broken = b.broken }
+
+    pub breaks_still : (place rule : ℕ) → Breaks texts notes place rule → Breaks texts (notes ++ note ∷ []) place rule
+    breaks_still place rule b = record {
+      before = b.before;
+      note = b.note;
+      after = b.after ++ note ∷ [];
+      splits = ap (λ (ns : List Note). ns ++ note ∷ []) b.splits ∙ append_assoc b.before (b.note ∷ b.after) (note ∷ []);
+      there = b.there;
+      test = b.test;
+      number = b.number;
+      broken = b.broken;
+    }
+
+    pub breaks_either : (place rule : ℕ) → Breaks texts (notes ++ note ∷ []) place rule → Breaks texts notes place rule ⊎ ((place ≡ note.token.at) × Broken notes note rule)
+    breaks_either place rule b = by (splits notes note b.before b.note b.after b.splits)
+      where
+        by : Splits notes note b.before b.note → Breaks texts notes place rule ⊎ ((place ≡ note.token.at) × Broken notes note rule)
+        by (last p q) = inr (sym b.there ∙ ap (λ (n : Note). n.token.at) q, record { test = b.test; number = b.number; broken = cc (p, q, b.broken) })
+        by (inside after p) = inl (record { before = b.before; note = b.note; after = after; splits = p; there = b.there; test = b.test; number = b.number; broken = b.broken })
+
+    -- the least rule that the note breaks is the least that it breaks
+    pub least_rule_is : (broken : List Bool) → broken ≡ map (λ (test : List Note → Token → Says → Bool). test notes note.token note.says) (rules texts)
+        → option_map (λ (n : ℕ). n + 1) (position (λ (holds : Bool). holds) broken) ≡ least_rule texts notes note
+    unfolding least_rule
+    least_rule_is broken e =
+        ap (λ (bs : List Bool). option_map (λ (n : ℕ). n + 1) (position (λ (holds : Bool). holds) bs)) e
+        ∙ ap (option_map (λ (n : ℕ). n + 1)) (position-map (λ (test : List Note → Token → Says → Bool). test notes note.token note.says) (rules texts))
+
+    none_broken : least_rule texts notes note ≡ None → (rule : ℕ) → ¬ Broken notes note rule
+    unfolding least_rule
+    none_broken none rule b = none_passes (λ (test : List Note → Token → Says → Bool). test notes note.token note.says) (rules texts) none b.number.0 b.test b.number.2 b.broken
+
+    least_broken : (least : ℕ) → least_rule texts notes note ≡ Some least → Broken notes note least × ((rule : ℕ) → Broken notes note rule → least ≤ rule)
+    unfolding least_rule
+    least_broken least some =
+        let first = first_passes (λ (test : List Note → Token → Says → Bool). test notes note.token note.says) (rules texts) (has_capital texts) least some in (
+          record { test = first.element; number = (first.place, first.numbers, first.there); broken = first.passes },
+          λ rule b. omega (arith, first.numbers, b.number.1, first.least b.number.0 b.test b.number.2 b.broken),
+        )
+
+    pub still_first : (best : Option Breach) → IsFirst texts notes best → least_rule texts notes note ≡ None → IsFirst texts (notes ++ note ∷ []) best
+    still_first None unbroken none = λ place rule b. ⊎_elim (unbroken place rule) (λ here. none_broken none rule here.1) (breaks_either place rule b)
+    still_first (Some best) first none = record {
+      breaks = breaks_still best.place best.rule first.breaks;
+      least_place = λ place rule b. ⊎_elim (first.least_place place rule) (λ here. absurd (none_broken none rule here.1)) (breaks_either place rule b);
+      least_rule = λ rule b. ⊎_elim (first.least_rule rule) (λ here. absurd (none_broken none rule here.1)) (breaks_either best.place rule b);
+    }
+
+    pub first_one : IsUnbroken texts notes → (least : ℕ) → least_rule texts notes note ≡ Some least → IsFirstBreach texts (notes ++ note ∷ []) note.token.at least
+    first_one unbroken least some =
+        let here = least_broken least some in
+        record {
+          breaks = breaks_here least here.0;
+          least_place = λ place rule b. ⊎_elim (λ was. absurd (unbroken place rule was)) (λ h. omega (arith, h.0)) (breaks_either place rule b);
+          least_rule = λ rule b. ⊎_elim (λ was. absurd (unbroken note.token.at rule was)) (λ h. here.1 rule h.1) (breaks_either note.token.at rule b);
+        }
+
+    -- the breach of the note is before the earlier one
+    new_first : (best : Breach) → IsFirstBreach texts notes best.place best.rule → (least : ℕ) → least_rule texts notes note ≡ Some least
+        → (note.token.at < best.place) ⊎ ((note.token.at ≡ best.place) × (least < best.rule)) → IsFirstBreach texts (notes ++ note ∷ []) note.token.at least
+    new_first best first least some before =
+        let here = least_broken least some in
+        record {
+          breaks = breaks_here least here.0;
+          least_place = λ place rule b. ⊎_elim (λ was. nearer place (first.least_place place rule was) before) (λ h. omega (arith, h.0)) (breaks_either place rule b);
+          least_rule = λ rule b. ⊎_elim (λ was. lower rule was before) (λ h. here.1 rule h.1) (breaks_either note.token.at rule b);
+        }
+      where
+        nearer : (place : ℕ) → best.place ≤ place → (note.token.at < best.place) ⊎ ((note.token.at ≡ best.place) × (least < best.rule)) → note.token.at ≤ place
+        nearer place h (inl less) = omega arith
+        nearer place h (inr same) = omega (arith, same.0)
+
+        lower : (rule : ℕ) → Breaks texts notes note.token.at rule → (note.token.at < best.place) ⊎ ((note.token.at ≡ best.place) × (least < best.rule)) → least ≤ rule
+        lower rule was (inl less) = absurd (omega (arith, first.least_place note.token.at rule was))
+        lower rule was (inr same) =
+            let more = first.least_rule rule (subst (λ place. Breaks texts notes place rule) same.0 was) in
+            omega (arith, same.1)
+
+    -- the earlier one is not behind it
+    old_first : (best : Breach) → IsFirstBreach texts notes best.place best.rule → (least : ℕ) → least_rule texts notes note ≡ Some least
+        → best.place ≤ note.token.at → (note.token.at ≡ best.place → best.rule ≤ least) → IsFirstBreach texts (notes ++ note ∷ []) best.place best.rule
+    old_first best first least some place_before rule_before =
+        let here = least_broken least some in
+        record {
+          breaks = breaks_still best.place best.rule first.breaks;
+          least_place = λ place rule b. ⊎_elim (first.least_place place rule) (λ h. omega (arith, h.0)) (breaks_either place rule b);
+          least_rule = λ rule b. ⊎_elim (first.least_rule rule) (λ h. omega (arith, rule_before (sym h.0), here.1 rule h.1)) (breaks_either best.place rule b);
+        }
+
+    pub first_of_two : (best : Breach) → IsFirstBreach texts notes best.place best.rule → (least : ℕ) → least_rule texts notes note ≡ Some least
+        → (c : Breach) → c ≡ lesser best (record { place = note.token.at; rule = least }) → IsFirstBreach texts (notes ++ note ∷ []) c.place c.rule
+    first_of_two best first least some c is = subst (λ (b : Breach). IsFirstBreach texts (notes ++ note ∷ []) b.place b.rule) (sym is)
+        (by (nat_lt note.token.at best.place || (note.token.at == best.place && nat_lt least best.rule)) refl)
+      where
+        by : (b : Bool) → nat_lt note.token.at best.place || (note.token.at == best.place && nat_lt least best.rule) ≡ b
+            → IsFirstBreach texts (notes ++ note ∷ []) (cond b (record { place = note.token.at; rule = least }) best).place (cond b (record { place = note.token.at; rule = least }) best).rule
+        by true e = new_first best first least some (comes_before note.token.at least best.place best.rule e)
+        by false e = old_first best first least some (comes_behind note.token.at least best.place best.rule e).0 (comes_behind note.token.at least best.place best.rule e).1

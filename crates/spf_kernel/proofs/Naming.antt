@@ -1,0 +1,47 @@
+-- The names of notes, told of the parts of their list.
+use Rattle.std.proofs.Common.{◌≡◌, ℕ, zero, suc, ◌<◌, Bool, List, [], ◌∷◌, ◌++◌, length, map, flat_map, get_or, All, arith, sym, subst}
+use Rattle.std.proofs.lemmas.Grind.{common_steps}
+use Rattle.spf_base.specs.Word.{IsName}
+use Rattle.spf_kernel.specs.declared.token.Token.{Token}
+use Rattle.spf_kernel.specs.declared.note.Note.{Note}
+use Rattle.spf_kernel.specs.declared.note.Says.{Says}
+use Rattle.spf_kernel.specs.Rules.{text_of, tokens_that, is_naming}
+use Rattle.spf_kernel.specs.Notes.{param_note}
+use Rattle.spf_kernel.specs.Resolved.{AreNames}
+
+module _ {X : Type 0} (P : X → Type 0) where
+  all_left : (xs ys : List X) → All P (xs ++ ys) → All P xs
+  all_left [] ys h k d l = absurd (omega arith)
+  all_left (x ∷ xs) ys h zero d l = h zero d (omega arith)
+  all_left (x ∷ xs) ys h (suc k) d l = all_left xs ys (λ j e m. h (suc j) e (omega arith)) k d (omega arith)
+
+  all_right : (xs ys : List X) → All P (xs ++ ys) → All P ys
+  all_right [] ys h = h
+  all_right (x ∷ xs) ys h = all_right xs ys (λ j e m. h (suc j) e (omega arith))
+
+tokens_append : (test : Says → Bool) (a b : List Note) → tokens_that test (a ++ b) ≡ tokens_that test a ++ tokens_that test b
+tokens_append test a b = grind (arith, common_steps)
+
+module _ (texts : List (List ℕ)) where
+  abbrev IsTextName : Token → Type 0
+  IsTextName token = IsName (text_of texts token)
+
+  pub names_left : (a b : List Note) → AreNames texts (a ++ b) → AreNames texts a
+  names_left a b h = all_left IsTextName (tokens_that is_naming a) (tokens_that is_naming b) (subst (All IsTextName) (tokens_append is_naming a b) h)
+
+  pub names_right : (a b : List Note) → AreNames texts (a ++ b) → AreNames texts b
+  names_right a b h = all_right IsTextName (tokens_that is_naming a) (tokens_that is_naming b) (subst (All IsTextName) (tokens_append is_naming a b) h)
+
+  at : {X : Type 0} (notes : X → List Note) (xs : List X) (i : ℕ) (d : X) → i < length xs → AreNames texts (flat_map notes xs) → AreNames texts (notes (get_or xs i d))
+  at notes [] i d l h = absurd (omega arith)
+  at notes (x ∷ xs) zero d l h = names_left (notes x) (flat_map notes xs) h
+  at notes (x ∷ xs) (suc i) d l h = at notes xs i d (omega arith) (names_right (notes x) (flat_map notes xs) h)
+
+  -- the notes of one of the things that the notes are of
+  pub names_at : {X : Type 0} (notes : X → List Note) (xs : List X) (i : ℕ) (x : X) → i < length xs → x ≡ get_or xs i x → AreNames texts (flat_map notes xs) → AreNames texts (notes x)
+  names_at notes xs i x l e h = subst (λ y. AreNames texts (notes y)) (sym e) (at notes xs i x l h)
+
+  pub param_at : (first : Token) (others : List Token) (i : ℕ) (d : Token) → i < length others → AreNames texts (map param_note (first ∷ others)) → IsName (text_of texts (get_or others i d))
+  param_at first (token ∷ others) zero d l h = h 1 d (omega arith)
+  param_at first (token ∷ others) (suc i) d l h = param_at token others i d (omega arith) (λ k e m. h (suc k) e (omega arith))
+  param_at first [] i d l h = absurd (omega arith)

@@ -1,0 +1,38 @@
+-- Values and factors, told of the parts of the raw tree as lists.
+use Rattle.std.proofs.Common.{◌≡◌, ℕ, List, ◌∷◌, map, refl, ap, ◌∙◌, sym}
+use Rattle.spf_kernel.specs.declared.note.Scope.{Scope}
+use Rattle.spf_kernel.specs.declared.raw.RawValue.{RawValue, out-RawValue, RawValue', Row_of-RawFactor, end_of-RawFactor, more_of-RawFactor, items-the_row-RawFactor, items_shown-the_row-RawFactor-1, Row_of-RawSummand, end_of-RawSummand, more_of-RawSummand, items-the_row-RawSummand, items_shown-the_row-RawSummand-2}
+use Rattle.spf_kernel.specs.declared.raw.RawSummand.{RawSummand}
+use Rattle.spf_kernel.specs.declared.raw.RawFactor.{RawFactor, Paren}
+use Rattle.spf_kernel.specs.declared.tree.Value.{roll-Value}
+use Rattle.spf_kernel.specs.declared.tree.Prod.{Prod}
+use Rattle.spf_kernel.specs.declared.tree.Factor.{Factor}
+use Rattle.spf_kernel.specs.declared.tree.Factor.TheVariants as factor
+use Rattle.spf_kernel.specs.Names.{Names}
+use Rattle.spf_kernel.specs.Resolved.{product, value_of, more_factors, more_prods, factor_of, prod_of}
+
+module _ (texts : List (List ℕ)) (names : Names) (scope : Scope) where
+  abbrev pub summand_of : RawSummand → Prod
+  summand_of summand = prod_of texts names scope summand.minus summand.prod
+
+  factors_are : {n : _} (row : Row_of-RawFactor n) → more_factors texts names scope row ≡ map (factor_of texts names scope) (items-the_row-RawFactor n row)
+  factors_are end_of-RawFactor = refl
+  factors_are (more_of-RawFactor fact others) = ap (λ (facts : List Factor). factor_of texts names scope fact ∷ facts) (factors_are others)
+
+  prods_are : {n : _} (row : Row_of-RawSummand n) → more_prods texts names scope row ≡ map summand_of (items-the_row-RawSummand n row)
+  prods_are end_of-RawSummand = refl
+  prods_are (more_of-RawSummand minus first shape facts others) =
+      let shown = factors_are facts ∙ ap (map (factor_of texts names scope)) (sym (items_shown-the_row-RawFactor-1 shape facts)) in
+      λ i. product minus (factor_of texts names scope first ∷ shown i) ∷ prods_are others i
+
+  pub value_is : (value : RawValue) → value_of texts names scope value ≡ roll-Value (record { prods = prod_of texts names scope (out-RawValue value).minus (out-RawValue value).first ∷ map summand_of (out-RawValue value).others })
+  unfolding out-RawValue denote.Hole.Carrier.out
+  value_is (RawValue' minus first shape facts shape_of_others others) =
+      let shown = factors_are facts ∙ ap (map (factor_of texts names scope)) (sym (items_shown-the_row-RawFactor-1 shape facts)) in
+      let more = prods_are others ∙ ap (map summand_of) (sym (items_shown-the_row-RawSummand-2 shape_of_others others)) in
+      λ i. roll-Value (record { prods = product minus (factor_of texts names scope first ∷ shown i) ∷ more i })
+
+  -- a value in parentheses
+  pub paren_is : (inside : RawValue) → factor_of texts names scope (Paren inside) ≡ factor.Paren (value_of texts names scope inside)
+  unfolding Rattle.spf_kernel.specs.declared.raw.RawFactor.TheBlock.hidden-the_row-RawValue-0 denote.Hole.Carrier.hidden
+  paren_is inside = refl

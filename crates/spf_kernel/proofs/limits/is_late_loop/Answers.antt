@@ -1,0 +1,9 @@
+use Rattle.std.proofs.Common.{arith}
+use Rattle.std.proofs.lemmas.Grind.{common_steps}
+use Rattle.spf_kernel.proofs.Counting.{is_counted}
+use Rattle.spf_kernel.proofs.limits.is_late_loop.Goals as goal
+
+pub returns-in-Declared-Loop : goal.returns-in-Declared-Loop
+returns-in-Declared-Loop c = λ texts notes e.
+    let counted = is_counted notes c.args.before.now e in
+    rw c.in-Declared-Loop.is (grind (arith, common_steps))

@@ -1,0 +1,14 @@
+use Rattle.std.proofs.Common.{arith}
+use Rattle.std.proofs.lemmas.Grind.{common_steps}
+use Rattle.spf_kernel.proofs.Counting.{is_counted}
+use Rattle.spf_kernel.proofs.limits.is_late_name.Goals as goal
+
+pub returns-in-Declared-Param : goal.returns-in-Declared-Param
+returns-in-Declared-Param c = λ texts notes e.
+    let counted = is_counted notes c.args.before.now e in
+    grind (arith, common_steps)
+
+pub returns-in-Declared-Index : goal.returns-in-Declared-Index
+returns-in-Declared-Index c = λ texts notes e.
+    let counted = is_counted notes c.args.before.now e in
+    grind (arith, common_steps)

@@ -1,0 +1,8 @@
+use Rattle.std.proofs.Common.{◌≡◌, ◌∷◌, ◌++◌, take, flat_map, None}
+use Rattle.spf_kernel.specs.Notes.{note, bound_notes, item_notes}
+use Rattle.spf_kernel.specs.declared.note.Sort.TheVariants as sort_is
+use Rattle.spf_kernel.specs.declared.note.Says.TheVariants.{Declared, Variable}
+use Rattle.spf_kernel.proofs.notes.note_loop.Given as goal
+
+abbrev pub invariant-loop-item : goal.invariant-loop-item
+invariant-loop-item l = l.notes ≡ l.fn.notes ++ note l.each.name (Declared sort_is.Loop) ∷ note l.each.range.var (Variable None) ∷ bound_notes l.each.range.low ++ bound_notes l.each.range.high ++ flat_map (item_notes l.each.range.var) (take l.item-index l.item-items)

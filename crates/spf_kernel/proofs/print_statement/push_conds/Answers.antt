@@ -1,0 +1,10 @@
+use Rattle.std.proofs.Common.{arith, codes}
+use Rattle.std.proofs.lemmas.Grind.{common_steps}
+use Rattle.spf_kernel.specs.Printed.{cond_words}
+use Rattle.spf_kernel.proofs.PrintEquations.{separated_more}
+use Rattle.spf_kernel.proofs.print_statement.push_conds.Goals as goal
+
+pub loop-n-preserved : goal.loop-n-preserved
+loop-n-preserved c =
+    let e = separated_more c.args.conds.now c.loop-n.n c.index-conds-n.result c.loop-n-test.true c.index-conds-n.is (codes "and") (cond_words c.args.names.now c.args.vars.now) in
+    grind (arith, common_steps)

@@ -1,0 +1,10 @@
+use Rattle.std.proofs.Common.{arith, codes}
+use Rattle.std.proofs.lemmas.Grind.{common_steps}
+use Rattle.spf_kernel.specs.Printed.{array_words}
+use Rattle.spf_kernel.proofs.PrintEquations.{separated_more}
+use Rattle.spf_kernel.proofs.print_tree.push_arrays.Goals as goal
+
+pub loop-n-preserved : goal.loop-n-preserved
+loop-n-preserved c =
+    let e = separated_more c.args.arrays.now c.loop-n.n c.index-arrays-n.result c.loop-n-test.true c.index-arrays-n.is (codes ",") (array_words c.args.names.now) in
+    grind (arith, common_steps)

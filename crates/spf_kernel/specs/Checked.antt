@@ -1,0 +1,28 @@
+-- What the rules say of the notes of a kernel.
+use Rattle.std.specs.Prelude.{ℕ, ◌≡◌, ◌+◌, ◌==◌, ◌&&◌, ◌||◌, nat_lt, if◌then◌else◌, Bool, List, position, Option, None, Some, Result, Ok, Err}
+use Rattle.std.specs.Option.{option_map}
+use Rattle.spf_kernel.specs.declared.note.Note.{Note}
+use Rattle.spf_kernel.specs.declared.token.Token.{Token}
+use Rattle.spf_kernel.specs.declared.note.Says.{Says}
+use Rattle.spf_kernel.specs.declared.rules.Breach.{Breach}
+use Rattle.spf_kernel.specs.Names.{Names, names_of}
+use Rattle.spf_kernel.specs.Rules.{rules, IsFirstBreach, IsUnbroken}
+
+-- the lesser of two breaches, by the place and then by the rule
+abbrev pub lesser : Breach → Breach → Breach
+lesser a b = if nat_lt b.place a.place || (b.place == a.place && nat_lt b.rule a.rule) then b else a
+
+module _ (texts : List (List ℕ)) where
+  -- the least rule that the note breaks, behind those before
+  unfoldable pub least_rule : List Note → Note → Option ℕ
+  least_rule before note = option_map (λ n. n + 1) (position (λ (test : List Note → Token → Says → Bool). test before note.token note.says) (rules texts))
+
+  -- the first breach of the notes, or that there is none
+  abbrev pub IsFirst : List Note → Option Breach → Type 0
+  IsFirst notes None = IsUnbroken texts notes
+  IsFirst notes (Some breach) = IsFirstBreach texts notes breach.place breach.rule
+
+  -- the notes keep the rules, and these are the names; or this is the first breach
+  abbrev pub Checked : List Note → Result Names Breach → Type 0
+  Checked notes (Ok names) = IsUnbroken texts notes × (names ≡ names_of texts notes)
+  Checked notes (Err breach) = IsFirstBreach texts notes breach.place breach.rule

@@ -1,0 +1,162 @@
+-- The notes of a raw tree, in the order of its text.
+use Rattle.std.specs.Prelude.{true, false, List, [], ◌∷◌, ◌++◌, Option, None, Some, is_some, map, flat_map}
+use Rattle.std.specs.Option.{unwrap_or}
+use Rattle.spf_kernel.specs.declared.token.Token.{Token}
+use Rattle.spf_kernel.specs.declared.raw.RawIx.{RawIx, RawIx', out-RawIx, Row_of-RawStep, end_of-RawStep, more_of-RawStep}
+use Rattle.spf_kernel.specs.declared.raw.RawMono.{RawMono, Number', Atom, RawMono-Number-1-None', RawMono-Number-1-Some'}
+use Rattle.spf_kernel.specs.declared.raw.RawAtom.{RawAtom, out-RawAtom, RawAtom', RawAtom-at-None', RawAtom-at-Some', Row_of-RawIx, end_of-RawIx, more_of-RawIx}
+use Rattle.spf_kernel.specs.declared.raw.RawValue.{RawValue, RawValue', Row_of-RawFactor, end_of-RawFactor, more_of-RawFactor, Row_of-RawSummand, end_of-RawSummand, more_of-RawSummand}
+use Rattle.spf_kernel.specs.declared.raw.RawProd.{RawProd}
+use Rattle.spf_kernel.specs.declared.raw.RawFactor.{RawFactor, Paren', Row_of-RawValue, end_of-RawValue, more_of-RawValue}
+use Rattle.spf_kernel.specs.declared.raw.RawFactor.TheVariants as factor_is
+use Rattle.spf_kernel.specs.declared.raw.RawAssign.{RawAssign}
+use Rattle.spf_kernel.specs.declared.raw.RawCond.{RawCond}
+use Rattle.spf_kernel.specs.declared.raw.RawGuard.{RawGuard}
+use Rattle.spf_kernel.specs.declared.raw.RawPart.{RawPart}
+use Rattle.spf_kernel.specs.declared.raw.RawPart.TheVariants as part_is
+use Rattle.spf_kernel.specs.declared.raw.RawItem.{RawItem}
+use Rattle.spf_kernel.specs.declared.raw.RawItem.TheVariants.{Part, Inner}
+use Rattle.spf_kernel.specs.declared.raw.RawLoop.{RawLoop}
+use Rattle.spf_kernel.specs.declared.raw.RawSized.{RawSized}
+use Rattle.spf_kernel.specs.declared.raw.RawDecl.{RawDecl}
+use Rattle.spf_kernel.specs.declared.raw.RawDecl.TheVariants.{Params, Index, Values}
+use Rattle.spf_kernel.specs.declared.raw.RawKernel.{RawKernel}
+use Rattle.spf_kernel.specs.declared.note.Note.{Note}
+use Rattle.spf_kernel.specs.declared.note.Says.{Says}
+use Rattle.spf_kernel.specs.declared.note.Says.TheVariants.{Declared, Variable, Used, Number, Expression, Monomial, Factor, Guard, Condition}
+use Rattle.spf_kernel.specs.declared.note.Spot.{Spot}
+use Rattle.spf_kernel.specs.declared.note.Spot.TheVariants as spot_is
+use Rattle.spf_kernel.specs.declared.note.Sort.TheVariants as sort_is
+use Rattle.spf_kernel.specs.declared.note.Scope.{Scope}
+use Rattle.spf_kernel.specs.Scopes.{nothing, within, inside}
+
+abbrev pub note : Token → Says → Note
+note token says = record { token = token; says = says }
+
+-- ---- index expressions
+
+-- the first token of a monomial
+abbrev pub mono_head : RawMono → Token
+mono_head (Number' number times) = number
+mono_head (Atom atom) = (out-RawAtom atom).name
+
+-- the first token of an index expression, which may be a `-`
+abbrev pub ix_head : RawIx → Token
+ix_head ix = unwrap_or (out-RawIx ix).lead (mono_head (out-RawIx ix).first)
+
+module _ (spot : Spot) (scope : Scope) where
+  abbrev mutual
+    pub ix_notes : RawIx → List Note
+    ix_notes (RawIx' lead first shape others) = mono_notes first ++ steps_notes others
+
+    pub steps_notes : {n : _} → Row_of-RawStep n → List Note
+    steps_notes end_of-RawStep = []
+    steps_notes (more_of-RawStep minus mono others) = mono_notes mono ++ steps_notes others
+
+    pub mono_notes : RawMono → List Note
+    mono_notes (Number' number RawMono-Number-1-None') = note number (Monomial spot) ∷ note number (Number false) ∷ []
+    mono_notes (Number' number (RawMono-Number-1-Some' atom)) = note number (Monomial spot) ∷ note number (Number true) ∷ atom_notes atom
+    mono_notes (Atom atom) = note (out-RawAtom atom).name (Monomial spot) ∷ atom_notes atom
+
+    pub atom_notes : RawAtom → List Note
+    atom_notes (RawAtom' name RawAtom-at-None') = note name (Used false spot scope) ∷ []
+    atom_notes (RawAtom' name (RawAtom-at-Some' shape at)) = note name (Used true spot scope) ∷ nested_notes at
+
+    pub nested_notes : {n : _} → Row_of-RawIx n → List Note
+    nested_notes end_of-RawIx = []
+    nested_notes (more_of-RawIx ix others) = ix_notes ix ++ nested_notes others
+
+  -- an index expression that stands in no other one
+  abbrev pub expression_notes : RawIx → List Note
+  expression_notes ix = note (mono_head (out-RawIx ix).first) Expression ∷ ix_notes ix
+
+-- ---- values and statements, where these variables are in scope
+
+module _ (scope : Scope) where
+  abbrev pub body_notes : RawIx → List Note
+  body_notes ix = expression_notes spot_is.Body scope ix
+
+  -- what stands in the brackets behind a name
+  abbrev pub subscript_notes : Option RawIx → List Note
+  subscript_notes None = []
+  subscript_notes (Some ix) = body_notes ix
+
+  -- a name as a factor
+  abbrev pub read_notes : RawAtom → List Note
+  read_notes atom =
+      note (out-RawAtom atom).name Factor ∷ note (out-RawAtom atom).name (Used (is_some (out-RawAtom atom).at) spot_is.Factor scope)
+      ∷ subscript_notes (out-RawAtom atom).at
+
+  abbrev mutual
+    pub value_notes : RawValue → List Note
+    value_notes (RawValue' minus first shape facts shape_of_others others) = (fact_notes first ++ facts_notes facts) ++ summands_notes others
+
+    pub facts_notes : {n : _} → Row_of-RawFactor n → List Note
+    facts_notes end_of-RawFactor = []
+    facts_notes (more_of-RawFactor fact others) = fact_notes fact ++ facts_notes others
+
+    pub summands_notes : {n : _} → Row_of-RawSummand n → List Note
+    summands_notes end_of-RawSummand = []
+    summands_notes (more_of-RawSummand minus first shape facts others) = (fact_notes first ++ facts_notes facts) ++ summands_notes others
+
+    pub fact_notes : RawFactor → List Note
+    fact_notes (factor_is.Number number) = note number Factor ∷ []
+    fact_notes (Paren' shape inside) = inside_notes inside
+    fact_notes (factor_is.Name atom) = read_notes atom
+
+    pub inside_notes : {n : _} → Row_of-RawValue n → List Note
+    inside_notes end_of-RawValue = []
+    inside_notes (more_of-RawValue value others) = value_notes value ++ inside_notes others
+
+  abbrev pub prod_notes : RawProd → List Note
+  prod_notes prod = fact_notes prod.first ++ flat_map fact_notes prod.others
+
+  abbrev pub assign_notes : RawAssign → List Note
+  assign_notes assign = note assign.array (Used true spot_is.Target scope) ∷ body_notes assign.at ++ value_notes assign.value
+
+  abbrev pub cond_notes : RawCond → List Note
+  cond_notes cond = note (ix_head cond.left) Condition ∷ body_notes cond.left ++ body_notes cond.right
+
+  abbrev pub guard_notes : RawGuard → List Note
+  guard_notes guard = note (ix_head guard.first.left) Guard ∷ cond_notes guard.first ++ flat_map cond_notes guard.others ++ flat_map assign_notes guard.body
+
+  abbrev pub part_notes : RawPart → List Note
+  part_notes (part_is.Assign assign) = assign_notes assign
+  part_notes (part_is.Guard guard) = guard_notes guard
+
+-- ---- loops
+
+-- the body of a loop, given its variable
+abbrev pub item_notes : Token → RawItem → List Note
+item_notes outer (Part part) = part_notes (within outer) part
+item_notes outer (Inner range parts) =
+    note range.var (Variable (Some outer)) ∷ body_notes (within outer) range.low ++ body_notes (within outer) range.high
+    ++ flat_map (part_notes (inside outer range.var)) parts
+
+abbrev pub bound_notes : RawIx → List Note
+bound_notes = expression_notes spot_is.Bound nothing
+
+unfoldable pub loop_notes : RawLoop → List Note
+loop_notes loop =
+    note loop.name (Declared sort_is.Loop) ∷ note loop.range.var (Variable None) ∷ bound_notes loop.range.low ++ bound_notes loop.range.high
+    ++ flat_map (item_notes loop.range.var) loop.items
+
+-- ---- declarations
+
+abbrev pub head_notes : RawIx → List Note
+head_notes = expression_notes spot_is.Head nothing
+
+abbrev pub param_note : Token → Note
+param_note name = note name (Declared sort_is.Param)
+
+abbrev pub cells_notes : RawSized → List Note
+cells_notes array = note array.name (Declared sort_is.Data) ∷ head_notes array.size
+
+abbrev pub decl_notes : RawDecl → List Note
+decl_notes (Params first others) = param_note first ∷ map param_note others
+decl_notes (Index array low high trend) = note array.name (Declared sort_is.Index) ∷ head_notes array.size ++ head_notes low ++ head_notes high
+decl_notes (Values first others) = cells_notes first ++ flat_map cells_notes others
+
+-- the notes of a kernel
+unfoldable pub kernel_notes : RawKernel → List Note
+kernel_notes kernel = flat_map decl_notes kernel.decls ++ head_notes kernel.steps ++ flat_map loop_notes kernel.loops

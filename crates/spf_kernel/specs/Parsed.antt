@@ -1,0 +1,47 @@
+-- The kernels that a text holds, and what reading one answers.
+use Rattle.std.specs.Prelude.{ℕ, ◌≡◌, List, Result, Ok, Err, ⊤}
+use Rattle.spf_base.specs.declared.place.Place.{Place}
+use Rattle.spf_lex.specs.Tokens.{Tokenized, IsTokenized, texts}
+use Rattle.spf_kernel.specs.declared.raw.RawKernel.{RawKernel}
+use Rattle.spf_kernel.specs.declared.tree.Tree.{Tree}
+use Rattle.spf_kernel.specs.declared.fault.KernelFault.{KernelFault}
+use Rattle.spf_kernel.specs.declared.fault.KernelFault.TheVariants.{Syntax, Rule, Memory}
+use Rattle.spf_kernel.specs.Notes.{kernel_notes}
+use Rattle.spf_kernel.specs.Rules.{IsUnbroken, IsFirstBreach}
+use Rattle.spf_kernel.specs.Names.{names_of}
+use Rattle.spf_kernel.specs.Resolved.{tree_of}
+use Rattle.spf_kernel.specs.Stands.{StandsAt, IsSyntaxFault, place_from}
+
+-- what a raw tree means
+abbrev pub meaning : List (List ℕ) → RawKernel → Tree
+meaning texts raw = tree_of texts (names_of texts (kernel_notes raw)) raw
+
+-- a kernel that breaks no rule stands there, and means this tree
+pub record ParsesTo (tokens : Tokenized) (from next : ℕ) (tree : Tree) : Type 0 where
+  pub raw : RawKernel
+  pub stands : StandsAt tokens from next raw
+  pub unbroken : IsUnbroken (texts tokens) (kernel_notes raw)
+  pub means : tree ≡ meaning (texts tokens) raw
+
+-- a kernel stands there; token `at` is the least place at which it breaks a rule, and this is the least rule broken there
+pub record IsRuleFault (tokens : Tokenized) (from : ℕ) (place : Place) (rule next : ℕ) : Type 0 where
+  pub raw : RawKernel
+  pub stands : StandsAt tokens from next raw
+  pub at : ℕ
+  pub breach : IsFirstBreach (texts tokens) (kernel_notes raw) at rule
+  pub place_is : place ≡ place_from tokens at
+
+-- the tree is what some text is parsed to
+pub record IsParsed (tree : Tree) : Type 0 where
+  pub tokens : Tokenized
+  pub lexed : IsTokenized tokens.text tokens.spans
+  pub from : ℕ
+  pub next : ℕ
+  pub parses : ParsesTo tokens from next tree
+
+-- what `parse` answers; want of memory is free
+abbrev pub IsAnswer : Tokenized → ℕ → Result (Tree × ℕ) KernelFault → Type 0
+IsAnswer tokens from (Ok (tree, next)) = ParsesTo tokens from next tree
+IsAnswer tokens from (Err (Syntax place kind)) = IsSyntaxFault tokens from place kind
+IsAnswer tokens from (Err (Rule place rule next)) = IsRuleFault tokens from place rule next
+IsAnswer tokens from (Err Memory) = ⊤

@@ -1,0 +1,229 @@
+-- The public tree that a raw tree means, one case for each production.
+use Rattle.std.specs.Prelude.{ℕ, Bool, true, false, if◌then◌else◌, List, [], ◌∷◌, ◌++◌, Option, None, Some, is_some, fold, map, All, ℤ, pos, neg_ℤ, ◌+ℤ◌}
+use Rattle.std.specs.List.{list_any}
+use Rattle.std.specs.Str.{bytes_eq}
+use Rattle.spf_base.specs.Word.{IsName}
+use Rattle.spf_base.specs.Wrap.{wrap}
+use Rattle.spf_term.specs.declared.term.Term.{Term, roll-Term}
+use Rattle.spf_term.specs.declared.term.Mono.{Mono, roll-Mono}
+use Rattle.spf_term.specs.declared.term.Atom.{Atom}
+use Rattle.spf_term.specs.declared.term.Atom.TheVariants as atom
+use Rattle.spf_kernel.specs.declared.token.Token.{Token}
+use Rattle.spf_kernel.specs.declared.note.Scope.{Scope}
+use Rattle.spf_kernel.specs.declared.raw.RawIx.{RawIx, RawIx', out-RawIx, Row_of-RawStep, end_of-RawStep, more_of-RawStep}
+use Rattle.spf_kernel.specs.declared.raw.RawStep.{RawStep}
+use Rattle.spf_kernel.specs.declared.raw.RawMono.{RawMono, Number', RawMono-Number-1-None', RawMono-Number-1-Some'}
+use Rattle.spf_kernel.specs.declared.raw.RawMono as raw_mono
+use Rattle.spf_kernel.specs.declared.raw.RawAtom.{RawAtom, out-RawAtom, RawAtom', RawAtom-at-None', RawAtom-at-Some', end_of-RawIx, more_of-RawIx}
+use Rattle.spf_kernel.specs.declared.raw.RawValue.{RawValue, RawValue', Row_of-RawFactor, end_of-RawFactor, more_of-RawFactor, Row_of-RawSummand, end_of-RawSummand, more_of-RawSummand}
+use Rattle.spf_kernel.specs.declared.raw.RawProd.{RawProd}
+use Rattle.spf_kernel.specs.declared.raw.RawFactor.{RawFactor, Paren', end_of-RawValue, more_of-RawValue}
+use Rattle.spf_kernel.specs.declared.raw.RawFactor.TheVariants as raw_factor
+use Rattle.spf_kernel.specs.declared.raw.RawAssign.{RawAssign}
+use Rattle.spf_kernel.specs.declared.raw.RawCond.{RawCond}
+use Rattle.spf_kernel.specs.declared.raw.RawGuard.{RawGuard}
+use Rattle.spf_kernel.specs.declared.raw.RawPart.{RawPart}
+use Rattle.spf_kernel.specs.declared.raw.RawPart.TheVariants as raw_part
+use Rattle.spf_kernel.specs.declared.raw.RawItem.{RawItem}
+use Rattle.spf_kernel.specs.declared.raw.RawItem.TheVariants as raw_item
+use Rattle.spf_kernel.specs.declared.raw.RawLoop.{RawLoop}
+use Rattle.spf_kernel.specs.declared.raw.RawSized.{RawSized}
+use Rattle.spf_kernel.specs.declared.raw.RawDecl.{RawDecl}
+use Rattle.spf_kernel.specs.declared.raw.RawDecl.TheVariants as raw_decl
+use Rattle.spf_kernel.specs.declared.raw.RawKernel.{RawKernel}
+use Rattle.spf_kernel.specs.declared.note.Note.{Note}
+use Rattle.spf_kernel.specs.declared.tree.Value.{Value, roll-Value}
+use Rattle.spf_kernel.specs.declared.tree.Prod.{Prod, roll-Prod}
+use Rattle.spf_kernel.specs.declared.tree.Factor.{Factor}
+use Rattle.spf_kernel.specs.declared.tree.Factor.TheVariants as factor
+use Rattle.spf_kernel.specs.declared.tree.Becomes.{Becomes}
+use Rattle.spf_kernel.specs.declared.tree.Becomes.TheVariants.{Put, Add}
+use Rattle.spf_kernel.specs.declared.tree.Assign.{Assign}
+use Rattle.spf_kernel.specs.declared.tree.Cond.{Cond}
+use Rattle.spf_kernel.specs.declared.tree.Guard.{Guard}
+use Rattle.spf_kernel.specs.declared.tree.Part.{Part}
+use Rattle.spf_kernel.specs.declared.tree.Part.TheVariants as part
+use Rattle.spf_kernel.specs.declared.tree.Item.{Item}
+use Rattle.spf_kernel.specs.declared.tree.Item.TheVariants as item
+use Rattle.spf_kernel.specs.declared.tree.Loop.{Loop}
+use Rattle.spf_kernel.specs.declared.tree.DataDecl.{DataDecl}
+use Rattle.spf_kernel.specs.declared.tree.Decl.{Decl}
+use Rattle.spf_kernel.specs.declared.tree.Decl.TheVariants as decl
+use Rattle.spf_kernel.specs.declared.tree.Trend.{Trend}
+use Rattle.spf_kernel.specs.declared.tree.Tree.{Tree}
+use Rattle.spf_kernel.specs.Names.{Names, number_of}
+use Rattle.spf_kernel.specs.Scopes.{nothing, within, inside}
+use Rattle.spf_kernel.specs.Rules.{text_of, names_variable, tokens_that, is_naming}
+
+-- ---- monomials that are numbers
+
+-- a number with the sign in front of it
+abbrev pub signed : Bool → ℕ → ℤ
+signed false n = pos n
+signed true n = neg_ℤ (pos n)
+
+-- a monomial that is a number, with its sign
+abbrev pub alone_of : Bool → RawMono → ℤ
+alone_of minus (Number' number RawMono-Number-1-None') = signed minus number.value
+alone_of minus mono = pos 0
+
+-- the sum of the monomials that are numbers
+abbrev pub constant_of : RawIx → ℤ
+constant_of ix = fold (λ total (step : RawStep). total +ℤ alone_of step.minus step.mono) (alone_of (is_some (out-RawIx ix).lead) (out-RawIx ix).first) (out-RawIx ix).others
+
+-- ---- names
+
+-- the variable in scope that a name is, if it is one
+abbrev pub variable_of : List (List ℕ) → Scope → Token → Option ℕ
+variable_of texts scope name = if names_variable texts scope.outer name then Some 0 else (if names_variable texts scope.inner name then Some 1 else None)
+
+module _ (texts : List (List ℕ)) (names : Names) where
+  abbrev pub param_of : Token → ℕ
+  param_of name = number_of names.params (text_of texts name)
+
+  abbrev pub table_of : Token → ℕ
+  table_of name = number_of names.tables (text_of texts name)
+
+  abbrev pub data_array_of : Token → ℕ
+  data_array_of name = number_of names.data_arrays (text_of texts name)
+
+  abbrev pub is_data_array : Token → Bool
+  is_data_array name = list_any (bytes_eq (text_of texts name)) names.data_arrays
+
+  -- a name without brackets, given the variable that it is
+  abbrev pub bare_atom : Option ℕ → Token → Atom
+  bare_atom (Some variable) name = atom.Var variable
+  bare_atom None name = atom.Param (param_of name)
+
+  abbrev pub bare_factor : Option ℕ → Token → Factor
+  bare_factor (Some variable) name = factor.Var variable
+  bare_factor None name = factor.Param (param_of name)
+
+abbrev pub monomial : Bool → ℕ → Atom → List Mono
+monomial minus number atom = roll-Mono (record { coef = wrap (signed minus number); atom = atom }) ∷ []
+
+abbrev pub becomes : Bool → Becomes
+becomes true = Add
+becomes false = Put
+
+abbrev pub product : Bool → List Factor → Prod
+product minus facts = roll-Prod (record { minus = minus; facts = facts })
+
+module _ (texts : List (List ℕ)) (names : Names) (scope : Scope) where
+  -- ---- index expressions
+
+  abbrev mutual
+    pub term_of : RawIx → Term
+    term_of (RawIx' lead first shape others) = roll-Term (record {
+      monos = monos_of (is_some lead) first ++ more_monos others;
+      constant = wrap (constant_of (RawIx' lead first shape others));
+    })
+
+    pub more_monos : {n : _} → Row_of-RawStep n → List Mono
+    more_monos end_of-RawStep = []
+    more_monos (more_of-RawStep minus mono others) = monos_of minus mono ++ more_monos others
+
+    -- the monomial, where it has an atom
+    pub monos_of : Bool → RawMono → List Mono
+    monos_of minus (Number' number RawMono-Number-1-None') = []
+    monos_of minus (Number' number (RawMono-Number-1-Some' atom)) = monomial minus number.value (atom_of atom)
+    monos_of minus (raw_mono.Atom atom) = monomial minus 1 (atom_of atom)
+
+    pub atom_of : RawAtom → Atom
+    atom_of (RawAtom' name RawAtom-at-None') = bare_atom texts names (variable_of texts scope name) name
+    atom_of (RawAtom' name (RawAtom-at-Some' shape (more_of-RawIx ix end_of-RawIx))) = atom.App (table_of texts names name) (term_of ix)
+
+  -- ---- values
+
+  -- a name, and what stands in the brackets behind it
+  abbrev pub factor_at : Token → Option RawIx → Factor
+  factor_at name None = bare_factor texts names (variable_of texts scope name) name
+  factor_at name (Some ix) =
+      if is_data_array texts names name then factor.Cell (data_array_of texts names name) (term_of ix) else factor.Index (table_of texts names name) (term_of ix)
+
+  abbrev pub name_factor : RawAtom → Factor
+  name_factor atom = factor_at (out-RawAtom atom).name (out-RawAtom atom).at
+
+  abbrev mutual
+    pub value_of : RawValue → Value
+    value_of (RawValue' minus first shape facts shape_of_others others) =
+        roll-Value (record { prods = product minus (factor_of first ∷ more_factors facts) ∷ more_prods others })
+
+    pub more_factors : {n : _} → Row_of-RawFactor n → List Factor
+    more_factors end_of-RawFactor = []
+    more_factors (more_of-RawFactor fact others) = factor_of fact ∷ more_factors others
+
+    pub more_prods : {n : _} → Row_of-RawSummand n → List Prod
+    more_prods end_of-RawSummand = []
+    more_prods (more_of-RawSummand minus first shape facts others) = product minus (factor_of first ∷ more_factors facts) ∷ more_prods others
+
+    pub factor_of : RawFactor → Factor
+    factor_of (raw_factor.Number number) = factor.Number number.value
+    factor_of (Paren' shape (more_of-RawValue inside end_of-RawValue)) = factor.Paren (value_of inside)
+    factor_of (raw_factor.Name name) = name_factor name
+
+  abbrev pub prod_of : Bool → RawProd → Prod
+  prod_of minus prod = product minus (factor_of prod.first ∷ map factor_of prod.others)
+
+  -- ---- statements
+
+  abbrev pub assign_of : RawAssign → Assign
+  assign_of assign = record {
+    array = data_array_of texts names assign.array;
+    sub = term_of assign.at;
+    sign = becomes assign.adds;
+    value = value_of assign.value;
+  }
+
+  abbrev pub cond_of : RawCond → Cond
+  cond_of cond = record { left = term_of cond.left; sign = cond.sign; right = term_of cond.right }
+
+  abbrev pub guard_of : RawGuard → Guard
+  guard_of guard = record { conds = map cond_of (guard.first ∷ guard.others); body = map assign_of guard.body }
+
+  abbrev pub part_of : RawPart → Part
+  part_of (raw_part.Assign assign) = part.Assign (assign_of assign)
+  part_of (raw_part.Guard guard) = part.Branch (guard_of guard)
+
+-- ---- loops and declarations
+
+module _ (texts : List (List ℕ)) (names : Names) where
+  -- a part of the body of a loop, given its variable
+  abbrev pub item_of : Token → RawItem → Item
+  item_of outer (raw_item.Part (raw_part.Assign assign)) = item.Assign (assign_of texts names (within outer) assign)
+  item_of outer (raw_item.Part (raw_part.Guard guard)) = item.Branch (guard_of texts names (within outer) guard)
+  item_of outer (raw_item.Inner range parts) =
+      item.Inner (text_of texts range.var) (term_of texts names (within outer) range.low) (term_of texts names (within outer) range.high)
+      (map (part_of texts names (inside outer range.var)) parts)
+
+  -- an index expression with no variable in scope
+  abbrev pub head_of : RawIx → Term
+  head_of = term_of texts names nothing
+
+  abbrev pub loop_of : RawLoop → Loop
+  loop_of loop = record {
+    name = text_of texts loop.name;
+    var = text_of texts loop.range.var;
+    low = head_of loop.range.low;
+    high = head_of loop.range.high;
+    items = map (item_of loop.range.var) loop.items;
+  }
+
+  abbrev pub data_decl_of : RawSized → DataDecl
+  data_decl_of array = record { name = text_of texts array.name; size = head_of array.size }
+
+  abbrev pub table_decl_of : RawSized → RawIx → RawIx → Trend → Decl
+  table_decl_of array low high trend = decl.Index (text_of texts array.name) (head_of array.size) (head_of low) (head_of high) trend
+
+  abbrev pub decl_of : RawDecl → Decl
+  decl_of (raw_decl.Params first others) = decl.Params (map (text_of texts) (first ∷ others))
+  decl_of (raw_decl.Index array low high trend) = table_decl_of array low high trend
+  decl_of (raw_decl.Values first others) = decl.Values (map data_decl_of (first ∷ others))
+
+  -- the tree that a kernel means
+  abbrev pub tree_of : RawKernel → Tree
+  tree_of kernel = record { decls = map decl_of kernel.decls; steps = head_of kernel.steps; loops = map loop_of kernel.loops }
+
+-- each declared name and each variable is one that can be kept
+abbrev pub AreNames : List (List ℕ) → List Note → Type 0
+AreNames texts notes = All (λ token. IsName (text_of texts token)) (tokens_that is_naming notes)

@@ -1,0 +1,82 @@
+//! What the rules ask of the notes before a note.
+
+ghost use Rattle.std.specs.Prelude.{◌≡◌, ◌^◌, ◌||◌, List, ℕ, [], ◌∷◌, ◌++◌, OnOk};
+ghost use Rattle.std.specs.List.{list_any};
+ghost use Rattle.std.specs.Str.{bytes_eq};
+ghost use Rattle.spf_lex.specs.Tokens.{texts};
+ghost use Rattle.spf_kernel.specs.declared.note.Note.{Note};
+ghost use Rattle.spf_kernel.specs.Counts.{IsBelow};
+ghost use Rattle.spf_kernel.specs.Before.{before_of};
+ghost use Rattle.spf_kernel.specs.Names.{IsShort};
+
+use crate::counts::Counts;
+use crate::names::{NameSet, Names, text_of};
+use crate::note::{Note, Says, Sort};
+use spf_base::NoMemory;
+use spf_lex::Tokens;
+use std::alloc::Global;
+
+/// What the rules ask of the notes before a note: how many say what, and which names they declare.
+#[derive(Drop)]
+pub(crate) struct Before<'a> {
+    pub counts: Counts,
+    pub params: NameSet<'a>,
+    pub tables: NameSet<'a>,
+    pub data_arrays: NameSet<'a>,
+    pub loops: NameSet<'a>,
+}
+
+impl<'a> Before<'a> {
+    /// What stands before the first note.
+    pub(crate) fn new(alloc: Global) -> Before<'a>
+        ensures { (texts : List (List ℕ)) → result ≡ before_of texts [] }
+    {
+        Before {
+            counts: Counts::new(),
+            params: NameSet::new(alloc),
+            tables: NameSet::new(alloc),
+            data_arrays: NameSet::new(alloc),
+            loops: NameSet::new(alloc),
+        }
+    }
+
+    /// Whether the name was declared. Linear in it on average.
+    pub(crate) fn declares(&self, name: &[u8]) -> bool
+        ensures { result ≡ (list_any (bytes_eq name.now) self.now.params || (list_any (bytes_eq name.now) self.now.tables || (list_any (bytes_eq name.now) self.now.data_arrays || list_any (bytes_eq name.now) self.now.loops))) }
+    {
+        self.params.contains(name)
+            || self.tables.contains(name)
+            || self.data_arrays.contains(name)
+            || self.loops.contains(name)
+    }
+
+    /// Takes the note to those before. Linear in its name on average.
+    pub(crate) fn add(&mut self, tokens: &'a Tokens, note: &Note) -> Result<(), NoMemory>
+        requires { IsBelow (2 ^ 63) self.old.counts }
+        ensures { OnOk result ((before : List Note) → self.old ≡ before_of (texts tokens.now) before → self.new ≡ before_of (texts tokens.now) (before ++ note.now ∷ [])) }
+    {
+        self.counts = self.counts.with(note);
+        let name = text_of(tokens, note.token);
+        match note.says {
+            Says::Declared(Sort::Param) => self.params.insert(name),
+            Says::Declared(Sort::Index) => self.tables.insert(name),
+            Says::Declared(Sort::Data) => self.data_arrays.insert(name),
+            Says::Declared(Sort::Loop) => self.loops.insert(name),
+            _ => Ok(()),
+        }
+    }
+
+    /// The names of the parameters and arrays.
+    pub(crate) fn into_names(self) -> Names<'a>
+        requires { IsShort (record { params = self.params; tables = self.tables; data_arrays = self.data_arrays }) }
+        ensures { result ≡ record { params = self.entry.params; tables = self.entry.tables; data_arrays = self.entry.data_arrays } }
+    {
+        let Before {
+            params,
+            tables,
+            data_arrays,
+            ..
+        } = self;
+        Names::new(params, tables, data_arrays)
+    }
+}

@@ -1,0 +1,113 @@
+//! A kernel that keeps the rules, and reading one.
+
+ghost use Rattle.std.specs.Prelude.{◌≡◌, ◌≤◌, ℕ, length, IfOk, Ok};
+ghost use Rattle.spf_lex.specs.Joined.{joined};
+ghost use Rattle.spf_lex.specs.Tokens.{IsTokenized, texts};
+ghost use Rattle.spf_kernel.specs.Checked.{Checked};
+ghost use Rattle.spf_kernel.specs.Notes.{kernel_notes};
+ghost use Rattle.spf_kernel.specs.Resolved.{tree_of};
+ghost use Rattle.spf_kernel.specs.Stands.{StandsAt};
+ghost use Rattle.spf_kernel.specs.Parsed.{IsParsed, IsAnswer};
+ghost use Rattle.spf_kernel.specs.Printed.{words_of};
+
+use crate::fault::KernelFault;
+use crate::found::{place_from, read_at};
+use crate::names::Names;
+use crate::notes::notes_of;
+use crate::print_tree::tree_text;
+use crate::raw::RawKernel;
+use crate::resolve::resolve;
+use crate::rules::check;
+use crate::tree::Tree;
+use spf_base::NoMemory;
+use spf_lex::Tokens;
+use std::alloc::Global;
+use std::marker::Model;
+
+/// A kernel that some text spells and that keeps the rules, seen as its tree.
+#[derive(Debug, Drop)]
+pub struct Kernel {
+    tree: Tree,
+}
+
+impl Model for Kernel {
+    ghost use Rattle.std.specs.Coded.{codes};
+    ghost use Rattle.spf_term.specs.contracts.term.Term as term;
+    ghost use Rattle.spf_kernel.specs.contracts.tree.Value as value;
+    ghost use Rattle.spf_kernel.specs.declared.tree.Tree.{Tree};
+    ghost use Rattle.spf_kernel.specs.Parsed.{IsParsed};
+
+    ghost Value = { Tree };
+
+    ghost coded = { Prim.hlevel (codes, term.the_row.coded, value.the_row.coded) };
+
+    ghost view = { λ kernel. kernel.tree };
+
+    ghost invariant = { λ kernel. IsParsed kernel.tree };
+}
+
+impl Kernel {
+    /// The tree. Constant time.
+    pub fn tree(&self) -> &Tree
+        ensures tree { result.now ≡ self.now }
+        ensures parsed { IsParsed result.now }
+    {
+        &self.tree
+    }
+}
+
+/// The kernel that keeps the rules and has these names.
+fn kernel_of(
+    alloc: Global,
+    tokens: &Tokens,
+    names: &Names,
+    raw: &RawKernel,
+) -> Result<Kernel, NoMemory>
+    requires stands { (from : ℕ) × (next : ℕ) × StandsAt tokens.now from next raw.now }
+    requires lexed { IsTokenized tokens.now.text tokens.now.spans }
+    requires checked { Checked (texts tokens.now) (kernel_notes raw.now) (Ok names.now) }
+    ensures { IfOk result (λ kernel. kernel ≡ tree_of (texts tokens.now) names.now raw.now) }
+{
+    let tree = resolve(alloc, tokens, names, raw)?;
+    Ok(Kernel { tree })
+}
+
+/// The kernel of a raw tree that ends in front of token `next`, or the first rule that it breaks.
+fn judge(
+    alloc: Global,
+    tokens: &Tokens,
+    raw: &RawKernel,
+    next: u32,
+) -> Result<(Kernel, u32), KernelFault>
+    requires stands { (from : ℕ) × StandsAt tokens.now from next raw.now }
+    requires lexed { IsTokenized tokens.now.text tokens.now.spans }
+    ensures { (from : ℕ) → StandsAt tokens.now from next raw.now → IsAnswer tokens.now from result }
+{
+    let notes = notes_of(alloc, raw)?;
+    match check(alloc, tokens, notes.as_slice())? {
+        Ok(names) => Ok((kernel_of(alloc, tokens, &names, raw)?, next)),
+        Err(breach) => Err(KernelFault::Rule {
+            place: place_from(tokens, breach.place),
+            rule: breach.rule,
+            next,
+        }),
+    }
+}
+
+/// Reads the kernel that stands from token `from` on, and gives the number of the token behind it. Linear in the tokens,
+/// and in the bytes of the names on average.
+pub fn parse(alloc: Global, tokens: &Tokens, from: u32) -> Result<(Kernel, u32), KernelFault>
+    requires { from ≤ length (texts tokens.now) }
+    ensures { IsAnswer tokens.now from result }
+{
+    let (raw, next) = read_at(alloc, tokens, from)?;
+    judge(alloc, tokens, &raw, next)
+}
+
+/// A text of the kernel: the words of its tree, production by production, with a blank between two. Linear in the tree and
+/// in how many numbers its constants are written as.
+pub fn print(alloc: Global, kernel: &Kernel) -> Result<Vec<u8>, NoMemory>
+    ensures { IfOk result (λ text. text.items ≡ joined (words_of kernel.now)) }
+{
+    tree_text(alloc, kernel.tree())
+}

@@ -1,0 +1,394 @@
+//! The notes of a raw tree.
+
+ghost use Rattle.std.specs.Prelude.{◌≡◌, [], ◌∷◌, ◌++◌, map, flat_map, OnOk, IfOk};
+ghost use Rattle.spf_kernel.specs.Notes.{mono_head, ix_notes, mono_notes, atom_notes, expression_notes, read_notes, fact_notes, prod_notes, value_notes};
+ghost use Rattle.spf_kernel.specs.Notes.{ix_head, assign_notes, cond_notes, guard_notes, part_notes, item_notes, loop_notes, cells_notes, param_note, head_notes, decl_notes, kernel_notes};
+
+use crate::note::{Note, Says, Scope, Sort, Spot};
+use crate::raw::{
+    RawAssign, RawAtom, RawCond, RawDecl, RawFactor, RawGuard, RawItem, RawIx, RawKernel, RawLoop,
+    RawMono, RawPart, RawProd, RawSized, RawValue,
+};
+use crate::token::Token;
+use spf_base::NoMemory;
+use sqlite_items::Items;
+use std::alloc::Global;
+
+/// The first token of a monomial.
+pub fn mono_head(mono: &RawMono) -> Token
+    ensures { result ≡ mono_head mono.now }
+{
+    match mono {
+        RawMono::Number(number, _) => *number,
+        RawMono::Atom(atom) => atom.name,
+    }
+}
+
+#[cycle(ix)]
+fn note_atom(
+    notes: &mut Items<Note>,
+    spot: Spot,
+    scope: Scope,
+    atom: &RawAtom,
+) -> Result<(), NoMemory>
+    ensures { OnOk result (notes.new ≡ notes.old ++ atom_notes spot scope atom.now) }
+{
+    let says = Says::Used {
+        brackets: atom.at.is_some(),
+        spot,
+        scope,
+    };
+    notes.push(Note {
+        token: atom.name,
+        says,
+    })?;
+    match &atom.at {
+        Some(at) => note_ix(notes, spot, scope, at.get()),
+        None => Ok(()),
+    }
+}
+
+#[cycle(ix)]
+fn note_mono(
+    notes: &mut Items<Note>,
+    spot: Spot,
+    scope: Scope,
+    mono: &RawMono,
+) -> Result<(), NoMemory>
+    ensures { OnOk result (notes.new ≡ notes.old ++ mono_notes spot scope mono.now) }
+{
+    notes.push(Note {
+        token: mono_head(mono),
+        says: Says::Monomial(spot),
+    })?;
+    match mono {
+        RawMono::Number(number, None) => {
+            notes.push(Note {
+                token: *number,
+                says: Says::Number { times: false },
+            })?;
+            Ok(())
+        }
+        RawMono::Number(number, Some(atom)) => {
+            notes.push(Note {
+                token: *number,
+                says: Says::Number { times: true },
+            })?;
+            note_atom(notes, spot, scope, atom)
+        }
+        RawMono::Atom(atom) => note_atom(notes, spot, scope, atom),
+    }
+}
+
+#[cycle(ix)]
+fn note_ix(notes: &mut Items<Note>, spot: Spot, scope: Scope, ix: &RawIx) -> Result<(), NoMemory>
+    ensures { OnOk result (notes.new ≡ notes.old ++ ix_notes spot scope ix.now) }
+{
+    note_mono(notes, spot, scope, &ix.first)?;
+    for step in ix.others.as_slice() {
+        note_mono(notes, spot, scope, &step.mono)?;
+    }
+    Ok(())
+}
+
+/// An index expression that stands in no other one. Linear in it.
+pub fn note_expression(
+    notes: &mut Items<Note>,
+    spot: Spot,
+    scope: Scope,
+    ix: &RawIx,
+) -> Result<(), NoMemory>
+    ensures { OnOk result (notes.new ≡ notes.old ++ expression_notes spot scope ix.now) }
+{
+    notes.push(Note {
+        token: mono_head(&ix.first),
+        says: Says::Expression,
+    })?;
+    note_ix(notes, spot, scope, ix)
+}
+
+/// A name as a factor of a value, and what stands in the brackets behind it. Linear in it.
+fn note_read(notes: &mut Items<Note>, scope: Scope, atom: &RawAtom) -> Result<(), NoMemory>
+    ensures { OnOk result (notes.new ≡ notes.old ++ read_notes scope atom.now) }
+{
+    let says = Says::Used {
+        brackets: atom.at.is_some(),
+        spot: Spot::Factor,
+        scope,
+    };
+    notes.push(Note {
+        token: atom.name,
+        says: Says::Factor,
+    })?;
+    notes.push(Note {
+        token: atom.name,
+        says,
+    })?;
+    match &atom.at {
+        Some(at) => note_expression(notes, Spot::Body, scope, at.get()),
+        None => Ok(()),
+    }
+}
+
+#[cycle(value)]
+fn note_fact(notes: &mut Items<Note>, scope: Scope, fact: &RawFactor) -> Result<(), NoMemory>
+    ensures { OnOk result (notes.new ≡ notes.old ++ fact_notes scope fact.now) }
+{
+    match fact {
+        RawFactor::Number(number) => {
+            notes.push(Note {
+                token: *number,
+                says: Says::Factor,
+            })?;
+            Ok(())
+        }
+        RawFactor::Paren(value) => note_value(notes, scope, value.get()),
+        RawFactor::Name(atom) => note_read(notes, scope, atom),
+    }
+}
+
+#[cycle(value)]
+fn note_prod(notes: &mut Items<Note>, scope: Scope, prod: &RawProd) -> Result<(), NoMemory>
+    ensures { OnOk result (notes.new ≡ notes.old ++ prod_notes scope prod.now) }
+{
+    note_fact(notes, scope, &prod.first)?;
+    for fact in prod.others.as_slice() {
+        note_fact(notes, scope, fact)?;
+    }
+    Ok(())
+}
+
+/// A value. Linear in it.
+#[cycle(value)]
+pub fn note_value(notes: &mut Items<Note>, scope: Scope, value: &RawValue) -> Result<(), NoMemory>
+    ensures { OnOk result (notes.new ≡ notes.old ++ value_notes scope value.now) }
+{
+    note_prod(notes, scope, &value.first)?;
+    for summand in value.others.as_slice() {
+        note_prod(notes, scope, &summand.prod)?;
+    }
+    Ok(())
+}
+
+// ---- statements
+
+fn note_assign(notes: &mut Items<Note>, scope: Scope, assign: &RawAssign) -> Result<(), NoMemory>
+    ensures { OnOk result (notes.new ≡ notes.old ++ assign_notes scope assign.now) }
+{
+    let says = Says::Used {
+        brackets: true,
+        spot: Spot::Target,
+        scope,
+    };
+    notes.push(Note {
+        token: assign.array,
+        says,
+    })?;
+    note_expression(notes, Spot::Body, scope, &assign.at)?;
+    note_value(notes, scope, &assign.value)
+}
+
+/// The first token of an index expression.
+fn ix_head(ix: &RawIx) -> Token
+    ensures { result ≡ ix_head ix.now }
+{
+    match ix.lead {
+        Some(minus) => minus,
+        None => mono_head(&ix.first),
+    }
+}
+
+fn note_cond(notes: &mut Items<Note>, scope: Scope, cond: &RawCond) -> Result<(), NoMemory>
+    ensures { OnOk result (notes.new ≡ notes.old ++ cond_notes scope cond.now) }
+{
+    notes.push(Note {
+        token: ix_head(&cond.left),
+        says: Says::Condition,
+    })?;
+    note_expression(notes, Spot::Body, scope, &cond.left)?;
+    note_expression(notes, Spot::Body, scope, &cond.right)
+}
+
+fn note_assigns(
+    notes: &mut Items<Note>,
+    scope: Scope,
+    assigns: &[RawAssign],
+) -> Result<(), NoMemory>
+    ensures { OnOk result (notes.new ≡ notes.old ++ flat_map (assign_notes scope) assigns.now) }
+{
+    for assign in assigns {
+        note_assign(notes, scope, assign)?;
+    }
+    Ok(())
+}
+
+fn note_guard(notes: &mut Items<Note>, scope: Scope, guard: &RawGuard) -> Result<(), NoMemory>
+    ensures { OnOk result (notes.new ≡ notes.old ++ guard_notes scope guard.now) }
+{
+    notes.push(Note {
+        token: ix_head(&guard.first.left),
+        says: Says::Guard,
+    })?;
+    note_cond(notes, scope, &guard.first)?;
+    for cond in guard.others.as_slice() {
+        note_cond(notes, scope, cond)?;
+    }
+    note_assigns(notes, scope, guard.body.as_slice())
+}
+
+fn note_part(notes: &mut Items<Note>, scope: Scope, part: &RawPart) -> Result<(), NoMemory>
+    ensures { OnOk result (notes.new ≡ notes.old ++ part_notes scope part.now) }
+{
+    match part {
+        RawPart::Assign(assign) => note_assign(notes, scope, assign),
+        RawPart::Guard(guard) => note_guard(notes, scope, guard),
+    }
+}
+
+// ---- loops
+
+/// What stands in the loop of this variable.
+fn note_item(notes: &mut Items<Note>, outer: Token, item: &RawItem) -> Result<(), NoMemory>
+    ensures { OnOk result (notes.new ≡ notes.old ++ item_notes outer item.now) }
+{
+    match item {
+        RawItem::Part(part) => note_part(notes, Scope::within(outer), part),
+        RawItem::Inner(range, parts) => {
+            notes.push(Note {
+                token: range.var,
+                says: Says::Variable(Some(outer)),
+            })?;
+            note_expression(notes, Spot::Body, Scope::within(outer), &range.low)?;
+            note_expression(notes, Spot::Body, Scope::within(outer), &range.high)?;
+            for part in parts.as_slice() {
+                note_part(notes, Scope::inside(outer, range.var), part)?;
+            }
+            Ok(())
+        }
+    }
+}
+
+#[tactic(auto, unfolding(crate::specs::Notes::loop_notes))]
+fn note_loop(notes: &mut Items<Note>, each: &RawLoop) -> Result<(), NoMemory>
+    ensures { OnOk result (notes.new ≡ notes.old ++ loop_notes each.now) }
+{
+    notes.push(Note {
+        token: each.name,
+        says: Says::Declared(Sort::Loop),
+    })?;
+    notes.push(Note {
+        token: each.range.var,
+        says: Says::Variable(None),
+    })?;
+    note_expression(notes, Spot::Bound, Scope::nothing(), &each.range.low)?;
+    note_expression(notes, Spot::Bound, Scope::nothing(), &each.range.high)?;
+    for item in each.items.as_slice() {
+        note_item(notes, each.range.var, item)?;
+    }
+    Ok(())
+}
+
+// ---- declarations
+
+fn note_param(notes: &mut Items<Note>, name: Token) -> Result<(), NoMemory>
+    ensures { OnOk result (notes.new ≡ notes.old ++ param_note name ∷ []) }
+{
+    notes.push(Note {
+        token: name,
+        says: Says::Declared(Sort::Param),
+    })?;
+    Ok(())
+}
+
+fn note_head(notes: &mut Items<Note>, ix: &RawIx) -> Result<(), NoMemory>
+    ensures { OnOk result (notes.new ≡ notes.old ++ head_notes ix.now) }
+{
+    note_expression(notes, Spot::Head, Scope::nothing(), ix)
+}
+
+fn note_cells(notes: &mut Items<Note>, array: &RawSized) -> Result<(), NoMemory>
+    ensures { OnOk result (notes.new ≡ notes.old ++ cells_notes array.now) }
+{
+    notes.push(Note {
+        token: array.name,
+        says: Says::Declared(Sort::Data),
+    })?;
+    note_head(notes, &array.size)
+}
+
+fn note_params(notes: &mut Items<Note>, names: &[Token]) -> Result<(), NoMemory>
+    ensures { OnOk result (notes.new ≡ notes.old ++ map param_note names.now) }
+{
+    for name in names {
+        note_param(notes, *name)?;
+    }
+    Ok(())
+}
+
+fn note_all_cells(notes: &mut Items<Note>, arrays: &[RawSized]) -> Result<(), NoMemory>
+    ensures { OnOk result (notes.new ≡ notes.old ++ flat_map cells_notes arrays.now) }
+{
+    for array in arrays {
+        note_cells(notes, array)?;
+    }
+    Ok(())
+}
+
+fn note_decl(notes: &mut Items<Note>, decl: &RawDecl) -> Result<(), NoMemory>
+    ensures { OnOk result (notes.new ≡ notes.old ++ decl_notes decl.now) }
+{
+    match decl {
+        RawDecl::Params(first, others) => {
+            note_param(notes, *first)?;
+            note_params(notes, others.as_slice())
+        }
+        RawDecl::Index {
+            array,
+            low,
+            high,
+            ..
+        } => {
+            notes.push(Note {
+                token: array.name,
+                says: Says::Declared(Sort::Index),
+            })?;
+            note_head(notes, &array.size)?;
+            note_head(notes, low)?;
+            note_head(notes, high)
+        }
+        RawDecl::Values(first, others) => {
+            note_cells(notes, first)?;
+            note_all_cells(notes, others.as_slice())
+        }
+    }
+}
+
+fn note_decls(notes: &mut Items<Note>, decls: &[RawDecl]) -> Result<(), NoMemory>
+    ensures { OnOk result (notes.new ≡ notes.old ++ flat_map decl_notes decls.now) }
+{
+    for decl in decls {
+        note_decl(notes, decl)?;
+    }
+    Ok(())
+}
+
+fn note_loops(notes: &mut Items<Note>, loops: &[RawLoop]) -> Result<(), NoMemory>
+    ensures { OnOk result (notes.new ≡ notes.old ++ flat_map loop_notes loops.now) }
+{
+    for each in loops {
+        note_loop(notes, each)?;
+    }
+    Ok(())
+}
+
+/// The notes of a kernel. Linear in it.
+#[tactic(auto, unfolding(crate::specs::Notes::kernel_notes))]
+pub fn notes_of(alloc: Global, kernel: &RawKernel) -> Result<Items<Note>, NoMemory>
+    ensures { IfOk result (λ notes. notes ≡ kernel_notes kernel.now) }
+{
+    let mut notes = Items::new(alloc);
+    note_decls(&mut notes, kernel.decls.as_slice())?;
+    note_head(&mut notes, &kernel.steps)?;
+    note_loops(&mut notes, kernel.loops.as_slice())?;
+    Ok(notes)
+}

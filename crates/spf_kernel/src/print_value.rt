@@ -1,0 +1,90 @@
+//! Printing values.
+
+ghost use Rattle.std.specs.Prelude.{◌≡◌, ◌++◌, OnOk};
+ghost use Rattle.spf_kernel.specs.Printed.{entry_words, fact_words, prod_words, value_words};
+
+use crate::print_list::{push_separator, push_sign_at};
+use crate::print_term::push_term;
+use crate::tree::{Factor, Prod, Value};
+use crate::tree_names::{TreeNames, push_name_at};
+use spf_base::{Name, NoMemory};
+use spf_lex::Words;
+use spf_term::Term;
+use sqlite_items::Items;
+
+/// Writes an entry of the array of this number.
+pub fn push_entry(
+    words: &mut Words,
+    names: &TreeNames,
+    vars: &Items<Name>,
+    arrays: &Items<Name>,
+    array: u32,
+    sub: &Term,
+) -> Result<(), NoMemory>
+    ensures { OnOk result (words.new ≡ words.old ++ entry_words names.now vars.now arrays.now array sub.now) }
+{
+    push_name_at(words, arrays, array)?;
+    words.push(b"[")?;
+    push_term(words, names, vars, sub)?;
+    words.push(b"]")
+}
+
+#[cycle(print_value)]
+fn push_factor(
+    words: &mut Words,
+    names: &TreeNames,
+    vars: &Items<Name>,
+    fact: &Factor,
+) -> Result<(), NoMemory>
+    ensures { OnOk result (words.new ≡ words.old ++ fact_words names.now vars.now fact.now) }
+{
+    match fact {
+        Factor::Number(number) => words.push_number(*number),
+        Factor::Paren(value) => {
+            words.push(b"(")?;
+            push_value(words, names, vars, value)?;
+            words.push(b")")
+        }
+        Factor::Param(number) => push_name_at(words, &names.params, *number),
+        Factor::Var(number) => push_name_at(words, vars, *number),
+        Factor::Index { array, sub } => {
+            push_entry(words, names, vars, &names.tables, *array, sub)
+        }
+        Factor::Cell { array, sub } => {
+            push_entry(words, names, vars, &names.arrays, *array, sub)
+        }
+    }
+}
+
+#[cycle(print_value)]
+fn push_prod(
+    words: &mut Words,
+    names: &TreeNames,
+    vars: &Items<Name>,
+    prod: &Prod,
+) -> Result<(), NoMemory>
+    ensures { OnOk result (words.new ≡ words.old ++ prod_words names.now vars.now prod.now) }
+{
+    for (n, fact) in prod.facts.as_slice().iter().enumerate() {
+        push_separator(words, b"*", n)?;
+        push_factor(words, names, vars, fact)?;
+    }
+    Ok(())
+}
+
+/// Writes a value. Linear in it.
+#[cycle(print_value)]
+pub fn push_value(
+    words: &mut Words,
+    names: &TreeNames,
+    vars: &Items<Name>,
+    value: &Value,
+) -> Result<(), NoMemory>
+    ensures { OnOk result (words.new ≡ words.old ++ value_words names.now vars.now value.now) }
+{
+    for (n, prod) in value.prods.as_slice().iter().enumerate() {
+        push_sign_at(words, n, prod.minus)?;
+        push_prod(words, names, vars, prod)?;
+    }
+    Ok(())
+}

@@ -1,0 +1,141 @@
+//! Index expressions as terms.
+
+ghost use Rattle.std.specs.Prelude.{◌≡◌, ◌++◌, OnOk, IfOk};
+ghost use Rattle.spf_base.specs.Wrap.{wrap};
+ghost use Rattle.spf_lex.specs.Tokens.{texts};
+ghost use Rattle.spf_kernel.specs.Resolved.{signed, alone_of, constant_of, variable_of, bare_atom, atom_of, monos_of, term_of};
+
+use crate::names::{Names, text_of};
+use crate::note::Scope;
+use crate::raw::{RawAtom, RawIx, RawMono};
+use crate::resolve::variables::variable;
+use crate::token::Token;
+use spf_base::{NoMemory, wadd, wsub};
+use spf_lex::Tokens;
+use spf_term::{Atom, Mono, Term};
+use sqlite_items::Items;
+use std::alloc::Global;
+
+/// The number with the sign in front of it.
+fn signed(minus: bool, number: u64) -> i64
+    ensures { result ≡ wrap (signed minus number) }
+{
+    let number = number.cast_signed();
+    if minus { wsub(0, number) } else { number }
+}
+
+/// The part of the constant that a monomial is.
+#[tactic(auto, using(crate::proofs::Signs::wrap_zero))]
+fn alone(minus: bool, mono: &RawMono) -> i64
+    ensures { result ≡ wrap (alone_of minus mono.now) }
+{
+    match mono {
+        RawMono::Number(number, times) => match times {
+            None => signed(minus, number.value),
+            Some(_) => 0,
+        },
+        RawMono::Atom(_) => 0,
+    }
+}
+
+/// The constant of a term. Linear in the monomials.
+fn constant(ix: &RawIx) -> i64
+    ensures { result ≡ wrap (constant_of ix.now) }
+{
+    let mut constant = alone(ix.lead.is_some(), &ix.first);
+    for step in ix.others.as_slice() {
+        constant = wadd(constant, alone(step.minus, &step.mono));
+    }
+    constant
+}
+
+/// A name without brackets.
+fn bare_atom(tokens: &Tokens, names: &Names, scope: Scope, name: Token) -> Atom
+    ensures { result ≡ bare_atom (texts tokens.now) names.now (variable_of (texts tokens.now) scope name) name }
+{
+    match variable(tokens, scope, name) {
+        Some(variable) => Atom::Var(variable),
+        None => Atom::Param(names.param(text_of(tokens, name))),
+    }
+}
+
+#[cycle(resolve_ix)]
+fn resolve_atom(
+    alloc: Global,
+    tokens: &Tokens,
+    names: &Names,
+    scope: Scope,
+    atom: &RawAtom,
+) -> Result<Atom, NoMemory>
+    ensures { IfOk result (λ found. found ≡ atom_of (texts tokens.now) names.now scope atom.now) }
+{
+    match &atom.at {
+        Some(at) => Ok(Atom::App {
+            fun: names.table(text_of(tokens, atom.name)),
+            arg: resolve_ix(alloc, tokens, names, scope, at.get())?,
+        }),
+        None => Ok(bare_atom(tokens, names, scope, atom.name)),
+    }
+}
+
+/// Adds the monomial, where it has an atom.
+#[cycle(resolve_ix)]
+fn add_mono(
+    alloc: Global,
+    tokens: &Tokens,
+    names: &Names,
+    scope: Scope,
+    minus: bool,
+    mono: &RawMono,
+    monos: &mut Items<Mono>,
+) -> Result<(), NoMemory>
+    ensures { OnOk result (monos.new ≡ monos.old ++ monos_of (texts tokens.now) names.now scope minus mono.now) }
+{
+    match mono {
+        RawMono::Number(_, None) => Ok(()),
+        RawMono::Number(number, Some(atom)) => {
+            let coef = signed(minus, number.value);
+            let atom = resolve_atom(alloc, tokens, names, scope, atom)?;
+            monos.push(Mono { coef, atom })?;
+            Ok(())
+        }
+        RawMono::Atom(atom) => {
+            let coef = signed(minus, 1);
+            let atom = resolve_atom(alloc, tokens, names, scope, atom)?;
+            monos.push(Mono { coef, atom })?;
+            Ok(())
+        }
+    }
+}
+
+/// The term that an index expression means. Linear in it.
+#[cycle(resolve_ix)]
+pub(super) fn resolve_ix(
+    alloc: Global,
+    tokens: &Tokens,
+    names: &Names,
+    scope: Scope,
+    ix: &RawIx,
+) -> Result<Term, NoMemory>
+    ensures { IfOk result (λ term. term ≡ term_of (texts tokens.now) names.now scope ix.now) }
+{
+    let mut monos = Items::new(alloc);
+    add_mono(
+        alloc,
+        tokens,
+        names,
+        scope,
+        ix.lead.is_some(),
+        &ix.first,
+        &mut monos,
+    )?;
+    for step in ix.others.as_slice() {
+        add_mono(
+            alloc, tokens, names, scope, step.minus, &step.mono, &mut monos,
+        )?;
+    }
+    Ok(Term {
+        monos,
+        constant: constant(ix),
+    })
+}
