@@ -37,7 +37,7 @@ module _ (test : Says → Bool) where
   pub count_more : (before : List Note) (note : Note) → count_that test (before ++ note ∷ []) ≡ more (test note.says) (count_that test before)
   count_more before note = sum_by_push (λ (x : Note). cond (test x.says) 1 0) before note ∙ added (test note.says) (count_that test before)
 
-  first_more : (note : Note) (others : List Note) → count_that test (note ∷ others) ≡ more (test note.says) (count_that test others)
+  pub first_more : (note : Note) (others : List Note) → count_that test (note ∷ others) ≡ more (test note.says) (count_that test others)
   first_more note others = sum_by-cons (λ (x : Note). cond (test x.says) 1 0) note others ∙ added_first (test note.says) (count_that test others)
 
   begun : (b : Bool) (note : Note) (others : List Note) → count_that test (cond (not b) (note ∷ others) []) ≡ cond b 0 (more (test note.says) (count_that test others))

@@ -1,5 +1,5 @@
 -- The names that a kernel declares are words.
-use Rattle.std.proofs.Common.{◌≡◌, ℕ, ◌+◌, Bool, true, false, List, [], ◌∷◌, ◌++◌, length, drop, get_or, map, flat_map, filter, All, Option, Some, None, refl, sym, ◌∙◌, inl, inr, arith, append_assoc, length-append}
+use Rattle.std.proofs.Common.{◌≡◌, ℕ, ◌+◌, Bool, true, false, List, [], ◌∷◌, ◌++◌, length, drop, get_or, map, flat_map, filter, All, Option, Some, None, refl, sym, ◌∙◌, true≢false, inl, inr, arith, append_assoc, length-append}
 use Rattle.std.specs.Prelude.{if◌then◌else◌}
 use Rattle.std.specs.Char.{is_ascii_alphabetic}
 use Rattle.std.specs.List.{AllByRecursion}
@@ -15,17 +15,8 @@ use Rattle.spf_lex.proofs.Lexemes.{lexeme_is_word}
 use Rattle.spf_kernel.specs.declared.kind.Kind.{Kind}
 use Rattle.spf_kernel.specs.declared.kind.Kind.TheVariants as kind
 use Rattle.spf_kernel.specs.declared.token.Token.{Token}
-use Rattle.spf_kernel.specs.declared.raw.RawIx.{RawIx, RawIx', Row_of-RawStep, end_of-RawStep, more_of-RawStep}
-use Rattle.spf_kernel.specs.declared.raw.RawMono.{RawMono, Number', Atom, RawMono-Number-1-None', RawMono-Number-1-Some'}
-use Rattle.spf_kernel.specs.declared.raw.RawAtom.{RawAtom, out-RawAtom, RawAtom', RawAtom-at-None', RawAtom-at-Some', Row_of-RawIx, end_of-RawIx, more_of-RawIx}
-use Rattle.spf_kernel.specs.declared.raw.RawValue.{RawValue, RawValue', Row_of-RawFactor, end_of-RawFactor, more_of-RawFactor, Row_of-RawSummand, end_of-RawSummand, more_of-RawSummand}
-use Rattle.spf_kernel.specs.declared.raw.RawFactor.{RawFactor, Paren', Row_of-RawValue, end_of-RawValue, more_of-RawValue}
-use Rattle.spf_kernel.specs.declared.raw.RawFactor.TheVariants as factor_is
-use Rattle.spf_kernel.specs.declared.raw.RawAssign.{RawAssign}
-use Rattle.spf_kernel.specs.declared.raw.RawCond.{RawCond}
-use Rattle.spf_kernel.specs.declared.raw.RawGuard.{RawGuard}
+use Rattle.spf_kernel.specs.declared.raw.RawIx.{RawIx}
 use Rattle.spf_kernel.specs.declared.raw.RawPart.{RawPart}
-use Rattle.spf_kernel.specs.declared.raw.RawPart.TheVariants as part_is
 use Rattle.spf_kernel.specs.declared.raw.RawKernel.{RawKernel}
 use Rattle.spf_kernel.specs.declared.note.Note.{Note}
 use Rattle.spf_kernel.specs.declared.note.Spot.{Spot}
@@ -34,11 +25,12 @@ use Rattle.spf_kernel.specs.declared.note.Scope.{Scope}
 use Rattle.spf_kernel.specs.IsKernel.{kind_of, IsKernel}
 use Rattle.spf_kernel.specs.Kind.{word_kind_of, symbol_kind_of}
 use Rattle.spf_kernel.specs.KernelGrammar.{range, inner, item, loop, params, sized, index, values, decl, kernel}
-use Rattle.spf_kernel.specs.Notes.{ix_notes, steps_notes, mono_notes, atom_notes, nested_notes, expression_notes, value_notes, facts_notes, summands_notes, fact_notes, inside_notes, read_notes, subscript_notes, assign_notes, cond_notes, guard_notes, part_notes, item_notes, loop_notes, head_notes, bound_notes, body_notes, param_note, cells_notes, decl_notes, kernel_notes}
+use Rattle.spf_kernel.specs.Notes.{expression_notes, part_notes, item_notes, loop_notes, head_notes, bound_notes, body_notes, param_note, cells_notes, decl_notes, kernel_notes}
 use Rattle.spf_kernel.specs.Scopes.{within, inside, nothing}
 use Rattle.spf_kernel.specs.RawTree.{ix_in, sized_in, range_in, part_in, item_in, loop_in, decl_in, kernel_in}
 use Rattle.spf_kernel.specs.Rules.{is_naming, tokens_that, text_of}
 use Rattle.spf_kernel.specs.Token.{fixed_kind_of, kind_and_value, token_of, numbered, tokens_of}
+use Rattle.spf_kernel.proofs.NothingNamed.{each_of_flat_map, expression_each, part_each}
 
 -- ---- a token of kind `Name` is a word
 
@@ -109,94 +101,15 @@ module _ (texts : List (List ℕ)) where
   both : (xs ys : List Note) → NameWords xs → NameWords ys → NameWords (xs ++ ys)
   both = join_each NamesWord
 
-  each_names : {A : Type 0} (notes : A → List Note) → ((x : A) → NameWords (notes x)) → (xs : List A) → NameWords (flat_map notes xs)
-  each_names notes one [] = tt
-  each_names notes one (x ∷ xs) = both (notes x) (flat_map notes xs) (one x) (each_names notes one xs)
+  -- a note that gives no name
+  none_named : (note : Note) → is_naming note.says ≡ false → NamesWord note
+  none_named note e f = absurd (true≢false (sym f ∙ e))
 
-  no_name : {b : Bool} {A : Type 0} → b ≡ false → b ≡ true → A
-  no_name e f = absurd cc
+  expression_names : (spot : Spot) (scope : Scope) (x : RawIx) → NameWords (expression_notes spot scope x)
+  expression_names = expression_each NamesWord none_named
 
-  -- index expressions and values name nothing
-
-  module _ (spot : Spot) (scope : Scope) where
-    mutual
-      ix_names : (x : RawIx) → NameWords (ix_notes spot scope x)
-      ix_names (RawIx' lead first shape others) = both (mono_notes spot scope first) (steps_notes spot scope others) (mono_names first) (steps_names others)
-
-      steps_names : {n : _} (row : Row_of-RawStep n) → NameWords (steps_notes spot scope row)
-      steps_names end_of-RawStep = tt
-      steps_names (more_of-RawStep minus mono others) = both (mono_notes spot scope mono) (steps_notes spot scope others) (mono_names mono) (steps_names others)
-
-      mono_names : (x : RawMono) → NameWords (mono_notes spot scope x)
-      mono_names (Number' number RawMono-Number-1-None') = (no_name refl, (no_name refl, tt))
-      mono_names (Number' number (RawMono-Number-1-Some' atom)) = (no_name refl, (no_name refl, atom_names atom))
-      mono_names (Atom atom) = (no_name refl, atom_names atom)
-
-      atom_names : (x : RawAtom) → NameWords (atom_notes spot scope x)
-      atom_names (RawAtom' name RawAtom-at-None') = (no_name refl, tt)
-      atom_names (RawAtom' name (RawAtom-at-Some' shape at)) = (no_name refl, nested_names at)
-
-      nested_names : {n : _} (row : Row_of-RawIx n) → NameWords (nested_notes spot scope row)
-      nested_names end_of-RawIx = tt
-      nested_names (more_of-RawIx x others) = both (ix_notes spot scope x) (nested_notes spot scope others) (ix_names x) (nested_names others)
-
-    expression_names : (x : RawIx) → NameWords (expression_notes spot scope x)
-    expression_names x = (no_name refl, ix_names x)
-
-  module _ (scope : Scope) where
-    subscript_names : (at : Option RawIx) → NameWords (subscript_notes scope at)
-    subscript_names None = tt
-    subscript_names (Some x) = expression_names spot_is.Body scope x
-
-    read_names : (x : RawAtom) → NameWords (read_notes scope x)
-    read_names x = (no_name refl, (no_name refl, subscript_names (out-RawAtom x).at))
-
-    mutual
-      value_names : (x : RawValue) → NameWords (value_notes scope x)
-      value_names (RawValue' minus first shape facts shape_of_others others) =
-          both (fact_notes scope first ++ facts_notes scope facts) (summands_notes scope others)
-          (both (fact_notes scope first) (facts_notes scope facts) (fact_names first) (facts_names facts)) (summands_names others)
-
-      facts_names : {n : _} (row : Row_of-RawFactor n) → NameWords (facts_notes scope row)
-      facts_names end_of-RawFactor = tt
-      facts_names (more_of-RawFactor x others) = both (fact_notes scope x) (facts_notes scope others) (fact_names x) (facts_names others)
-
-      summands_names : {n : _} (row : Row_of-RawSummand n) → NameWords (summands_notes scope row)
-      summands_names end_of-RawSummand = tt
-      summands_names (more_of-RawSummand minus first shape facts others) =
-          both (fact_notes scope first ++ facts_notes scope facts) (summands_notes scope others)
-          (both (fact_notes scope first) (facts_notes scope facts) (fact_names first) (facts_names facts)) (summands_names others)
-
-      fact_names : (x : RawFactor) → NameWords (fact_notes scope x)
-      fact_names (factor_is.Number number) = (no_name refl, tt)
-      fact_names (Paren' shape inside) = inside_names inside
-      fact_names (factor_is.Name atom) = read_names atom
-
-      inside_names : {n : _} (row : Row_of-RawValue n) → NameWords (inside_notes scope row)
-      inside_names end_of-RawValue = tt
-      inside_names (more_of-RawValue x others) = both (value_notes scope x) (inside_notes scope others) (value_names x) (inside_names others)
-
-    -- nor do assignments and conditions
-
-    assign_names : (x : RawAssign) → NameWords (assign_notes scope x)
-    assign_names x =
-        (no_name refl, both (body_notes scope x.at) (value_notes scope x.value) (expression_names spot_is.Body scope x.at) (value_names x.value))
-
-    cond_names : (x : RawCond) → NameWords (cond_notes scope x)
-    cond_names x =
-        (no_name refl, both (body_notes scope x.left) (body_notes scope x.right) (expression_names spot_is.Body scope x.left) (expression_names spot_is.Body scope x.right))
-
-    guard_names : (x : RawGuard) → NameWords (guard_notes scope x)
-    guard_names x = (
-      no_name refl,
-      both (cond_notes scope x.first ++ flat_map (cond_notes scope) x.others) (flat_map (assign_notes scope) x.body)
-          (both (cond_notes scope x.first) (flat_map (cond_notes scope) x.others) (cond_names x.first) (each_names (cond_notes scope) cond_names x.others))
-          (each_names (assign_notes scope) assign_names x.body),
-    )
-
-    part_names : (x : RawPart) → NameWords (part_notes scope x)
-    part_names (part_is.Assign x) = assign_names x
-    part_names (part_is.Guard x) = guard_names x
+  part_names : (scope : Scope) (x : RawPart) → NameWords (part_notes scope x)
+  part_names = part_each NamesWord none_named
 
   -- ---- what names something is a word
 
@@ -255,7 +168,7 @@ module _ (texts : List (List ℕ)) where
         λ e. range_name x leaves.1.0,
         both (body_notes (within outer) low ++ body_notes (within outer) high) (flat_map (part_notes scope) (map part_in parts))
             (both (body_notes (within outer) low) (body_notes (within outer) high) (expression_names spot_is.Body (within outer) low) (expression_names spot_is.Body (within outer) high))
-            (each_names (part_notes scope) (part_names scope) (map part_in parts)),
+            (each_of_flat_map NamesWord (part_notes scope) (part_names scope) (map part_in parts)),
       )
 
   loop_names : (x : Derivation Token loop) → Leaves IsWordAt loop x → NameWords (loop_notes (loop_in x))

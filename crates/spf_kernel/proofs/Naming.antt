@@ -19,7 +19,7 @@ module _ {X : Type 0} (P : X → Type 0) where
   all_right [] ys h = h
   all_right (x ∷ xs) ys h = all_right xs ys (λ j e m. h (suc j) e (omega arith))
 
-tokens_append : (test : Says → Bool) (a b : List Note) → tokens_that test (a ++ b) ≡ tokens_that test a ++ tokens_that test b
+pub tokens_append : (test : Says → Bool) (a b : List Note) → tokens_that test (a ++ b) ≡ tokens_that test a ++ tokens_that test b
 tokens_append test a b = grind (arith, common_steps)
 
 module _ (texts : List (List ℕ)) where

@@ -12,7 +12,7 @@ use Rattle.spf_kernel.specs.declared.note.Note.{Note}
 use Rattle.spf_kernel.specs.declared.note.Says.{Says}
 use Rattle.spf_kernel.specs.declared.note.Says.TheVariants.{Declared, Variable, Used, Number, Expression, Monomial, Factor, Guard, Condition}
 use Rattle.spf_kernel.specs.declared.note.Sort.TheVariants.{Param, Index, Data, Loop}
-use Rattle.spf_kernel.specs.Rules.{rules, IsUnbroken, is_param, is_table, is_data, is_loop, is_naming, is_declared, is_outer_of, is_taken, is_late_name, declares, count_that, tokens_that, text_of}
+use Rattle.spf_kernel.specs.Rules.{rules, IsUnbroken, is_param, is_table, is_data, is_loop, is_naming, is_declared, is_outer_of, is_taken, is_late_name, is_site, declares, count_that, tokens_that, text_of}
 use Rattle.spf_kernel.specs.declared.rules.Breach.{Breach}
 use Rattle.spf_kernel.specs.Kept.{KeepsRules}
 use Rattle.spf_kernel.specs.Checked.{IsFirst}
@@ -27,8 +27,13 @@ pub record IsFew (notes : List Note) : Type 0 where
   pub params : count_that is_param notes ≤ 64
   pub arrays : count_that is_table notes + count_that is_data notes ≤ 64
 
-below : (n : ℕ) → nat_le 64 n ≡ false → n + 1 ≤ 64
-below n e = grind (arith, nat_tests)
+below : (limit n : ℕ) → nat_le limit n ≡ false → n + 1 ≤ limit
+below limit n e = grind (arith, nat_tests)
+
+-- one more that is counted stands below the limit
+one_more : (limit : ℕ) (counts : Bool) (n : ℕ) → counts && nat_le limit n ≡ false → n ≤ limit → more counts n ≤ limit
+one_more limit true n e few = below limit n e
+one_more limit false n e few = few
 
 all_lack : (p t d l o : Bool) → (p || (t || (d || l))) || o ≡ false → (p ≡ false) × (t ≡ false) × (d ≡ false)
 all_lack true t d l o e = absurd (true≢false e)
@@ -41,7 +46,7 @@ not_second true b e holds = e
 not_second false b e holds = absurd (true≢false (sym holds))
 
 -- a note declares one of these sorts only where it gives a name
-naming : (says : Says) → (is_naming says ≡ true) ⊎ ((is_param says ≡ false) × (is_table says ≡ false) × (is_data says ≡ false))
+pub naming : (says : Says) → (is_naming says ≡ true) ⊎ ((is_param says ≡ false) × (is_table says ≡ false) × (is_data says ≡ false))
 naming (Declared sort) = inl refl
 naming (Variable outer) = inl refl
 naming (Used brackets spot scope) = inr (refl, refl, refl)
@@ -59,9 +64,9 @@ once_none = refl
 module _ (texts : List (List ℕ)) (before : List Note) (token : Token) where
   few_after : (says : Says) → is_late_name texts before token says ≡ false → IsFew before
       → (more (is_param says) (count_that is_param before) ≤ 64) × (more (is_table says) (count_that is_table before) + more (is_data says) (count_that is_data before) ≤ 64)
-  few_after (Declared Param) e few = (below (count_that is_param before) e, few.arrays)
-  few_after (Declared Index) e few = (few.params, omega (arith, below (count_that is_table before + count_that is_data before) e))
-  few_after (Declared Data) e few = (few.params, omega (arith, below (count_that is_table before + count_that is_data before) e))
+  few_after (Declared Param) e few = (below 64 (count_that is_param before) e, few.arrays)
+  few_after (Declared Index) e few = (few.params, omega (arith, below 64 (count_that is_table before + count_that is_data before) e))
+  few_after (Declared Data) e few = (few.params, omega (arith, below 64 (count_that is_table before + count_that is_data before) e))
   few_after (Declared Loop) e few = (few.params, few.arrays)
   few_after (Variable outer) e few = (few.params, few.arrays)
   few_after (Used brackets spot scope) e few = (few.params, few.arrays)
@@ -141,6 +146,11 @@ module _ (texts : List (List ℕ)) (notes : List Note) (unbroken : IsUnbroken te
 
   pub few : IsFew notes
   few = grown IsFew [] notes refl (record { params = omega arith; arrays = omega arith }) few_more
+
+  -- at most 256 names with brackets stand in the loops
+  pub few_sites : count_that is_site notes ≤ 256
+  few_sites = grown (λ seen. count_that is_site seen ≤ 256) [] notes refl (omega arith) (λ before note keeps few_before.
+      rw (count_more is_site before note) (one_more 256 (is_site note.says) (count_that is_site before) keeps.late_site few_before))
 
   -- where a name is new whenever it is declared to be this, the names are apart
   apart : (test : Says → Bool) → ((before : List Note) (note : Note) → KeepsRules texts before note → test note.says ≡ true → declares texts test before note.token ≡ false)

@@ -5,6 +5,7 @@ pub mod IsKernel
 pub mod Kept
 pub mod KernelGrammar
 pub mod Kind
+pub mod Named
 pub mod Names
 pub mod Notes
 pub mod Parsed
@@ -16,6 +17,7 @@ pub mod Resolved
 pub mod Rules
 pub mod SameKind
 pub mod Scopes
+pub mod Sites
 pub mod Stands
 pub mod Token
 pub mod TreeNames

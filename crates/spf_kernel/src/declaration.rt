@@ -1,7 +1,7 @@
 //! Readers of declarations and of the whole kernel.
 
 ghost use Rattle.std.specs.Prelude.{◌≡◌};
-ghost use Rattle.spf_kernel.specs.Reader.{Reads, many, sees};
+ghost use Rattle.spf_kernel.specs.Reader.{Reads, sees};
 ghost use Rattle.spf_kernel.specs.declared.kind.Kind.TheVariants as kind;
 ghost use Rattle.spf_kernel.specs.Reading as reading;
 
@@ -9,10 +9,9 @@ use crate::cursor::{Cursor, ReadFault};
 use crate::ix::{BRACKETS, in_brackets, ix};
 use crate::kind::Kind;
 use crate::raw::{RawDecl, RawKernel, RawSized};
-use crate::statement::loops;
+use crate::repeated::{Part, repeated};
 use crate::token::Token;
 use crate::tree::Trend;
-use sqlite_items::Items;
 use std::alloc::Global;
 
 #[tactic(auto, unfolding(crate::specs::Reading::next_name))]
@@ -23,18 +22,18 @@ fn next_name(tokens: &mut Cursor) -> Result<Token, ReadFault>
     tokens.expect(Kind::Name)
 }
 
-fn names(alloc: Global, tokens: &mut Cursor) -> Result<Items<Token>, ReadFault>
-    ensures { Reads (many (sees kind.Comma) reading.next_name tokens.old) result tokens.new }
-{
-    let mut all = Items::new(alloc);
-    for _turn in 0..tokens.left() {
-        if !tokens.sees(Kind::Comma) {
-            return Ok(all);
-        }
-        let next = next_name(tokens)?;
-        all.push(next)?;
+impl Part for Token {
+    ghost begins = { sees kind.Comma };
+
+    ghost reading = { reading.next_name };
+
+    fn begins(tokens: &Cursor) -> bool {
+        tokens.sees(Kind::Comma)
     }
-    Ok(all)
+
+    fn read(_alloc: Global, tokens: &mut Cursor) -> Result<Token, ReadFault> {
+        next_name(tokens)
+    }
 }
 
 #[tactic(auto, unfolding(crate::specs::Reading::params))]
@@ -43,7 +42,7 @@ fn params(alloc: Global, tokens: &mut Cursor) -> Result<RawDecl, ReadFault>
 {
     tokens.expect(Kind::Param)?;
     let first = tokens.expect(Kind::Name)?;
-    let others = names(alloc, tokens)?;
+    let others = repeated(alloc, tokens)?;
     tokens.expect(Kind::Semicolon)?;
     Ok(RawDecl::Params(first, others))
 }
@@ -65,18 +64,18 @@ fn next_sized(alloc: Global, tokens: &mut Cursor) -> Result<RawSized, ReadFault>
     sized(alloc, tokens)
 }
 
-fn arrays(alloc: Global, tokens: &mut Cursor) -> Result<Items<RawSized>, ReadFault>
-    ensures { Reads (many (sees kind.Comma) reading.next_sized tokens.old) result tokens.new }
-{
-    let mut all = Items::new(alloc);
-    for _turn in 0..tokens.left() {
-        if !tokens.sees(Kind::Comma) {
-            return Ok(all);
-        }
-        let next = next_sized(alloc, tokens)?;
-        all.push(next)?;
+impl Part for RawSized {
+    ghost begins = { sees kind.Comma };
+
+    ghost reading = { reading.next_sized };
+
+    fn begins(tokens: &Cursor) -> bool {
+        tokens.sees(Kind::Comma)
     }
-    Ok(all)
+
+    fn read(alloc: Global, tokens: &mut Cursor) -> Result<RawSized, ReadFault> {
+        next_sized(alloc, tokens)
+    }
 }
 
 #[tactic(auto, unfolding(crate::specs::Reading::begins_trend))]
@@ -134,7 +133,7 @@ fn values(alloc: Global, tokens: &mut Cursor) -> Result<RawDecl, ReadFault>
 {
     tokens.expect(Kind::Data)?;
     let first = sized(alloc, tokens)?;
-    let others = arrays(alloc, tokens)?;
+    let others = repeated(alloc, tokens)?;
     tokens.expect(Kind::Semicolon)?;
     Ok(RawDecl::Values(first, others))
 }
@@ -159,18 +158,18 @@ fn begins_decl(tokens: &Cursor) -> bool
     tokens.sees(Kind::Param) || tokens.sees(Kind::Index) || tokens.sees(Kind::Data)
 }
 
-fn decls(alloc: Global, tokens: &mut Cursor) -> Result<Items<RawDecl>, ReadFault>
-    ensures { Reads (many reading.begins_decl reading.decl tokens.old) result tokens.new }
-{
-    let mut all = Items::new(alloc);
-    for _turn in 0..tokens.left() {
-        if !begins_decl(tokens) {
-            return Ok(all);
-        }
-        let next = decl(alloc, tokens)?;
-        all.push(next)?;
+impl Part for RawDecl {
+    ghost begins = { reading.begins_decl };
+
+    ghost reading = { reading.decl };
+
+    fn begins(tokens: &Cursor) -> bool {
+        begins_decl(tokens)
     }
-    Ok(all)
+
+    fn read(alloc: Global, tokens: &mut Cursor) -> Result<RawDecl, ReadFault> {
+        decl(alloc, tokens)
+    }
 }
 
 /// A kernel. Linear in its tokens.
@@ -180,11 +179,11 @@ pub fn kernel(alloc: Global, tokens: &mut Cursor) -> Result<RawKernel, ReadFault
 {
     tokens.expect(Kind::Kernel)?;
     tokens.expect(Kind::OpenBrace)?;
-    let decls = decls(alloc, tokens)?;
+    let decls = repeated(alloc, tokens)?;
     tokens.expect(Kind::Steps)?;
     let steps = ix(alloc, tokens, BRACKETS)?;
     tokens.expect(Kind::Semicolon)?;
-    let loops = loops(alloc, tokens)?;
+    let loops = repeated(alloc, tokens)?;
     tokens.expect(Kind::CloseBrace)?;
     Ok(RawKernel {
         decls,

@@ -4,6 +4,7 @@ ghost use Rattle.std.specs.Prelude.{◌≡◌, ◌≤◌, ℕ, length, IfOk, Ok}
 ghost use Rattle.spf_lex.specs.Joined.{joined};
 ghost use Rattle.spf_lex.specs.Tokens.{IsTokenized, texts};
 ghost use Rattle.spf_kernel.specs.Checked.{Checked};
+ghost use Rattle.spf_kernel.specs.Named.{IsNamed};
 ghost use Rattle.spf_kernel.specs.Notes.{kernel_notes};
 ghost use Rattle.spf_kernel.specs.Resolved.{tree_of};
 ghost use Rattle.spf_kernel.specs.Stands.{StandsAt};
@@ -51,6 +52,7 @@ impl Kernel {
     pub fn tree(&self) -> &Tree
         ensures tree { result.now ≡ self.now }
         ensures parsed { IsParsed result.now }
+        ensures named { IsNamed result.now }
     {
         &self.tree
     }

@@ -8,14 +8,17 @@
 //!
 //! Upward the crate gives one contract: `parse` answers the tree of the kernel that stands at a token and breaks no rule, or
 //! the exact fault of syntax, or the least place and the least rule that is broken there (`IsAnswer`); at most one kernel
-//! stands there (`one_kernel_stands`). A `Kernel` keeps that some text is parsed to it, and `print` gives the words of its
-//! tree (`Printed`).
+//! stands there (`one_kernel_stands`). A `Kernel` keeps that some text is parsed to it, so that each number in its tree names
+//! something declared, or a variable in scope (`IsNamed`); and `print` gives the words of its tree (`Printed`).
+//! It tells the names of its loops and data arrays by their numbers, and how many data sites its loops have
+//! (`Kernel::loop_name`, `Kernel::data_name`, `Kernel::data_sites`).
 //!
 //! The crate stands on spf_lex for tokens, written words and the theorem on grammars, on spf_term for the terms that index
 //! expressions are, and on spf_base for names, places and want of memory; indexmap keeps the declared names. Parsing is
 //! linear in the tokens, and its recursion is bounded by the two depths.
 #![tactic(auto)]
 
+mod accessors;
 mod before;
 mod counts;
 mod cursor;
@@ -37,8 +40,10 @@ mod print_tree;
 mod print_value;
 pub mod raw;
 mod raw_kernel;
+mod repeated;
 mod resolve;
 mod rules;
+mod sites;
 mod statement;
 mod token;
 pub mod tree;

@@ -1,7 +1,7 @@
 //! Readers of loops and what stands in them.
 
 ghost use Rattle.std.specs.Prelude.{◌≡◌};
-ghost use Rattle.spf_kernel.specs.Reader.{Reads, many, sees};
+ghost use Rattle.spf_kernel.specs.Reader.{Reads, sees};
 ghost use Rattle.spf_kernel.specs.declared.kind.Kind.TheVariants as kind;
 ghost use Rattle.spf_kernel.specs.Reading as reading;
 
@@ -9,9 +9,9 @@ use crate::cursor::{Cursor, ReadFault};
 use crate::ix::{BRACKETS, in_brackets, ix};
 use crate::kind::Kind;
 use crate::raw::{RawAssign, RawCond, RawGuard, RawItem, RawLoop, RawPart, RawRange};
+use crate::repeated::{Part, repeated};
 use crate::tree::Compare;
 use crate::value::value;
-use sqlite_items::Items;
 use std::alloc::Global;
 
 /// How deep parentheses stand in a value.
@@ -46,18 +46,18 @@ fn assign(alloc: Global, tokens: &mut Cursor) -> Result<RawAssign, ReadFault>
     })
 }
 
-fn assigns(alloc: Global, tokens: &mut Cursor) -> Result<Items<RawAssign>, ReadFault>
-    ensures { Reads (reading.assigns tokens.old) result tokens.new }
-{
-    let mut all = Items::new(alloc);
-    for _turn in 0..tokens.left() {
-        if !tokens.sees(Kind::Name) {
-            return Ok(all);
-        }
-        let next = assign(alloc, tokens)?;
-        all.push(next)?;
+impl Part for RawAssign {
+    ghost begins = { sees kind.Name };
+
+    ghost reading = { reading.assign };
+
+    fn begins(tokens: &Cursor) -> bool {
+        tokens.sees(Kind::Name)
     }
-    Ok(all)
+
+    fn read(alloc: Global, tokens: &mut Cursor) -> Result<RawAssign, ReadFault> {
+        assign(alloc, tokens)
+    }
 }
 
 #[tactic(auto, unfolding(crate::specs::Reading::from_greater))]
@@ -130,29 +130,29 @@ fn next_cond(alloc: Global, tokens: &mut Cursor) -> Result<RawCond, ReadFault>
     cond(alloc, tokens)
 }
 
-fn conds(alloc: Global, tokens: &mut Cursor) -> Result<Items<RawCond>, ReadFault>
-    ensures { Reads (many (sees kind.And) reading.next_cond tokens.old) result tokens.new }
-{
-    let mut all = Items::new(alloc);
-    for _turn in 0..tokens.left() {
-        if !tokens.sees(Kind::And) {
-            return Ok(all);
-        }
-        let next = next_cond(alloc, tokens)?;
-        all.push(next)?;
+impl Part for RawCond {
+    ghost begins = { sees kind.And };
+
+    ghost reading = { reading.next_cond };
+
+    fn begins(tokens: &Cursor) -> bool {
+        tokens.sees(Kind::And)
     }
-    Ok(all)
+
+    fn read(alloc: Global, tokens: &mut Cursor) -> Result<RawCond, ReadFault> {
+        next_cond(alloc, tokens)
+    }
 }
 
-#[tactic(auto, unfolding(crate::specs::Reading::guard))]
+#[tactic(auto, unfolding(crate::specs::Reading::guard, crate::specs::Reading::assigns))]
 fn guard(alloc: Global, tokens: &mut Cursor) -> Result<RawGuard, ReadFault>
     ensures { Reads (reading.guard tokens.old) result tokens.new }
 {
     tokens.expect(Kind::If)?;
     let first = cond(alloc, tokens)?;
-    let others = conds(alloc, tokens)?;
+    let others = repeated(alloc, tokens)?;
     tokens.expect(Kind::OpenBrace)?;
-    let body = assigns(alloc, tokens)?;
+    let body = repeated(alloc, tokens)?;
     tokens.expect(Kind::CloseBrace)?;
     Ok(RawGuard {
         first,
@@ -191,18 +191,18 @@ fn begins_part(tokens: &Cursor) -> bool
     tokens.sees(Kind::Name) || tokens.sees(Kind::If)
 }
 
-fn parts(alloc: Global, tokens: &mut Cursor) -> Result<Items<RawPart>, ReadFault>
-    ensures { Reads (many reading.begins_part reading.part tokens.old) result tokens.new }
-{
-    let mut all = Items::new(alloc);
-    for _turn in 0..tokens.left() {
-        if !begins_part(tokens) {
-            return Ok(all);
-        }
-        let next = part(alloc, tokens)?;
-        all.push(next)?;
+impl Part for RawPart {
+    ghost begins = { reading.begins_part };
+
+    ghost reading = { reading.part };
+
+    fn begins(tokens: &Cursor) -> bool {
+        begins_part(tokens)
     }
-    Ok(all)
+
+    fn read(alloc: Global, tokens: &mut Cursor) -> Result<RawPart, ReadFault> {
+        part(alloc, tokens)
+    }
 }
 
 #[tactic(auto, unfolding(crate::specs::Reading::inner))]
@@ -212,7 +212,7 @@ fn inner(alloc: Global, tokens: &mut Cursor) -> Result<RawItem, ReadFault>
     tokens.expect(Kind::For)?;
     let range = range(alloc, tokens)?;
     tokens.expect(Kind::OpenBrace)?;
-    let parts = parts(alloc, tokens)?;
+    let parts = repeated(alloc, tokens)?;
     tokens.expect(Kind::CloseBrace)?;
     Ok(RawItem::Inner(range, parts))
 }
@@ -235,18 +235,18 @@ fn begins_item(tokens: &Cursor) -> bool
     begins_part(tokens) || tokens.sees(Kind::For)
 }
 
-fn items(alloc: Global, tokens: &mut Cursor) -> Result<Items<RawItem>, ReadFault>
-    ensures { Reads (many reading.begins_item reading.item tokens.old) result tokens.new }
-{
-    let mut all = Items::new(alloc);
-    for _turn in 0..tokens.left() {
-        if !begins_item(tokens) {
-            return Ok(all);
-        }
-        let next = item(alloc, tokens)?;
-        all.push(next)?;
+impl Part for RawItem {
+    ghost begins = { reading.begins_item };
+
+    ghost reading = { reading.item };
+
+    fn begins(tokens: &Cursor) -> bool {
+        begins_item(tokens)
     }
-    Ok(all)
+
+    fn read(alloc: Global, tokens: &mut Cursor) -> Result<RawItem, ReadFault> {
+        item(alloc, tokens)
+    }
 }
 
 /// A loop, with all that stands in it.
@@ -260,21 +260,21 @@ fn one_loop(alloc: Global, tokens: &mut Cursor) -> Result<RawLoop, ReadFault>
     let range = range(alloc, tokens)?;
     tokens.expect(Kind::CloseParenthesis)?;
     tokens.expect(Kind::OpenBrace)?;
-    let items = items(alloc, tokens)?;
+    let items = repeated(alloc, tokens)?;
     tokens.expect(Kind::CloseBrace)?;
     Ok(RawLoop { name, range, items })
 }
 
-pub fn loops(alloc: Global, tokens: &mut Cursor) -> Result<Items<RawLoop>, ReadFault>
-    ensures { Reads (many (sees kind.Loop) reading.one_loop tokens.old) result tokens.new }
-{
-    let mut all = Items::new(alloc);
-    for _turn in 0..tokens.left() {
-        if !tokens.sees(Kind::Loop) {
-            return Ok(all);
-        }
-        let next = one_loop(alloc, tokens)?;
-        all.push(next)?;
+impl Part for RawLoop {
+    ghost begins = { sees kind.Loop };
+
+    ghost reading = { reading.one_loop };
+
+    fn begins(tokens: &Cursor) -> bool {
+        tokens.sees(Kind::Loop)
     }
-    Ok(all)
+
+    fn read(alloc: Global, tokens: &mut Cursor) -> Result<RawLoop, ReadFault> {
+        one_loop(alloc, tokens)
+    }
 }

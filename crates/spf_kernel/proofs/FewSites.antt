@@ -1,0 +1,160 @@
+-- Each data site of a tree is a name with brackets in its raw tree, and of these there are at most 256 where no rule is broken.
+use Rattle.std.proofs.Common.{◌≡◌, ℕ, ◌+◌, ◌≤◌, Bool, true, false, List, [], ◌∷◌, ◌++◌, map, flat_map, cond, Option, None, Some, is_some, refl, ap, ◌∙◌, append-nil, arith}
+use Rattle.std.proofs.lemmas.List.Sums.{sum_by-append, sum_by-cons}
+use Rattle.std.specs.List.{sum_by}
+use Rattle.spf_kernel.specs.declared.token.Token.{Token}
+use Rattle.spf_kernel.specs.declared.raw.RawIx.{RawIx}
+use Rattle.spf_kernel.specs.declared.raw.RawAtom.{out-RawAtom}
+use Rattle.spf_kernel.specs.declared.raw.RawValue.{RawValue, RawValue', Row_of-RawFactor, end_of-RawFactor, more_of-RawFactor, Row_of-RawSummand, end_of-RawSummand, more_of-RawSummand}
+use Rattle.spf_kernel.specs.declared.raw.RawFactor.{RawFactor, Paren', end_of-RawValue, more_of-RawValue}
+use Rattle.spf_kernel.specs.declared.raw.RawFactor.TheVariants as raw_factor
+use Rattle.spf_kernel.specs.declared.raw.RawAssign.{RawAssign}
+use Rattle.spf_kernel.specs.declared.raw.RawGuard.{RawGuard}
+use Rattle.spf_kernel.specs.declared.raw.RawPart.{RawPart}
+use Rattle.spf_kernel.specs.declared.raw.RawPart.TheVariants as raw_part
+use Rattle.spf_kernel.specs.declared.raw.RawItem.{RawItem}
+use Rattle.spf_kernel.specs.declared.raw.RawItem.TheVariants as raw_item
+use Rattle.spf_kernel.specs.declared.raw.RawLoop.{RawLoop}
+use Rattle.spf_kernel.specs.declared.raw.RawKernel.{RawKernel}
+use Rattle.spf_kernel.specs.declared.note.Note.{Note}
+use Rattle.spf_kernel.specs.declared.note.Scope.{Scope}
+use Rattle.spf_kernel.specs.declared.note.Says.TheVariants.{Used, Variable, Guard, Declared}
+use Rattle.spf_kernel.specs.declared.note.Says.TheVariants as says
+use Rattle.spf_kernel.specs.declared.note.Sort.TheVariants as sort_is
+use Rattle.spf_kernel.specs.declared.note.Spot.TheVariants as spot_is
+use Rattle.spf_kernel.specs.declared.tree.Factor.{Factor}
+use Rattle.spf_kernel.specs.declared.tree.Prod.{Prod}
+use Rattle.spf_kernel.specs.declared.tree.Tree.{Tree}
+use Rattle.spf_kernel.specs.Notes.{note, ix_head, body_notes, bound_notes, subscript_notes, value_notes, facts_notes, summands_notes, fact_notes, assign_notes, cond_notes, guard_notes, part_notes, item_notes, loop_notes, decl_notes, head_notes, kernel_notes}
+use Rattle.spf_kernel.specs.Names.{Names, names_of}
+use Rattle.spf_kernel.specs.Parsed.{IsParsed}
+use Rattle.spf_kernel.specs.Resolved.{variable_of, bare_factor, factor_at, is_data_array, product, value_of, more_factors, more_prods, factor_of, assign_of, guard_of, part_of, item_of, loop_of, tree_of}
+use Rattle.spf_kernel.specs.Rules.{is_site, count_that}
+use Rattle.spf_kernel.specs.Scopes.{within, inside}
+use Rattle.spf_kernel.specs.Sites.{fact_sites, prod_sites, value_sites, assign_sites, guard_sites, part_sites, item_sites, loop_sites, data_sites}
+use Rattle.spf_lex.specs.Tokens.{texts}
+use Rattle.spf_kernel.proofs.Counting.{more, first_more}
+use Rattle.spf_kernel.proofs.SiteCounts.{sum_sites_are}
+use Rattle.spf_kernel.proofs.Unbroken.{few_sites}
+
+-- the names with brackets
+abbrev sites : List Note → ℕ
+sites = count_that is_site
+
+both : (xs ys : List Note) → sites (xs ++ ys) ≡ sites xs + sites ys
+both = sum_by-append (λ (x : Note). cond (is_site x.says) 1 0)
+
+grows : (b : Bool) (n : ℕ) → n ≤ more b n
+grows true n = omega arith
+grows false n = omega arith
+
+behind : (first : Note) (others : List Note) → sites others ≤ sites (first ∷ others)
+behind first others = rw (first_more is_site first others) (grows (is_site first.says) (sites others))
+
+inside_last : {n : ℕ} (front last : List Note) → n ≤ sites last → n ≤ sites (front ++ last)
+inside_last front last few = omega (arith, few, both front last)
+
+-- a name with brackets, and those behind it
+counted : (first : Note) (others : List Note) → is_site first.says ≡ true → sites (first ∷ others) ≡ sites others + 1
+counted first others is = first_more is_site first others ∙ ap (λ (b : Bool). more b (sites others)) is
+
+sums_within : {A B : Type 0} (f : B → ℕ) (g : A → B) (notes : A → List Note) → ((x : A) → f (g x) ≤ sites (notes x)) → (xs : List A) → sum_by f (map g xs) ≤ sites (flat_map notes xs)
+sums_within f g notes each [] = omega arith
+sums_within f g notes each (x ∷ xs) =
+    omega (arith, sum_by-cons f (g x) (map g xs), both (notes x) (flat_map notes xs), each x, sums_within f g notes each xs)
+
+module _ (texts : List (List ℕ)) (names : Names) where
+  module _ (scope : Scope) where
+    bare_none : (variable : Option ℕ) (name : Token) → fact_sites (bare_factor texts names variable name) ≡ 0
+    bare_none None name = refl
+    bare_none (Some variable) name = refl
+
+    at_most_one : (is_data : Bool) (name : Token) (ix : RawIx) → is_data_array texts names name ≡ is_data → fact_sites (factor_at texts names scope name (Some ix)) ≤ 1
+    at_most_one true name ix e = rw e (omega arith)
+    at_most_one false name ix e = rw e (omega arith)
+
+    named_within : (name : Token) (at : Option RawIx)
+        → fact_sites (factor_at texts names scope name at) ≤ sites (note name says.Factor ∷ note name (Used (is_some at) spot_is.Factor scope) ∷ subscript_notes scope at)
+    named_within name None = rw (bare_none (variable_of texts scope name) name) (omega arith)
+    named_within name (Some ix) =
+        let used = note name (Used true spot_is.Factor scope) in
+        omega (arith, at_most_one (is_data_array texts names name) name ix refl, behind (note name says.Factor) (used ∷ body_notes scope ix), counted used (body_notes scope ix) refl)
+
+    summand_within : (first : RawFactor) {n : _} (facts : Row_of-RawFactor n) → fact_sites (factor_of texts names scope first) ≤ sites (fact_notes scope first)
+        → sum_by fact_sites (more_factors texts names scope facts) ≤ sites (facts_notes scope facts)
+        → sum_by fact_sites (factor_of texts names scope first ∷ more_factors texts names scope facts) ≤ sites (fact_notes scope first ++ facts_notes scope facts)
+    summand_within first facts here more =
+        omega (arith, sum_by-cons fact_sites (factor_of texts names scope first) (more_factors texts names scope facts), here, more, both (fact_notes scope first) (facts_notes scope facts))
+
+    sum_within : (minus : Bool) (facts : List Factor) (others : List Prod) (notes more : List Note) → sum_by fact_sites facts ≤ sites notes → sum_by prod_sites others ≤ sites more
+        → sum_by prod_sites (product minus facts ∷ others) ≤ sites (notes ++ more)
+    sum_within minus facts others notes more here behind = omega (arith, sum_by-cons prod_sites (product minus facts) others, here, behind, both notes more)
+
+    mutual
+      value_within : (value : RawValue) → value_sites (value_of texts names scope value) ≤ sites (value_notes scope value)
+      value_within (RawValue' minus first shape facts shape_of_others others) =
+          let facts_of = factor_of texts names scope first ∷ more_factors texts names scope facts in
+          let notes = fact_notes scope first ++ facts_notes scope facts in
+          rw (sum_sites_are (product minus facts_of ∷ more_prods texts names scope others))
+          (sum_within minus facts_of (more_prods texts names scope others) notes (summands_notes scope others)
+          (summand_within first facts (fact_within first) (facts_within facts)) (summands_within others))
+
+      facts_within : {n : _} (row : Row_of-RawFactor n) → sum_by fact_sites (more_factors texts names scope row) ≤ sites (facts_notes scope row)
+      facts_within end_of-RawFactor = omega arith
+      facts_within (more_of-RawFactor fact others) = summand_within fact others (fact_within fact) (facts_within others)
+
+      summands_within : {n : _} (row : Row_of-RawSummand n) → sum_by prod_sites (more_prods texts names scope row) ≤ sites (summands_notes scope row)
+      summands_within end_of-RawSummand = omega arith
+      summands_within (more_of-RawSummand minus first shape facts others) =
+          sum_within minus (factor_of texts names scope first ∷ more_factors texts names scope facts) (more_prods texts names scope others)
+          (fact_notes scope first ++ facts_notes scope facts) (summands_notes scope others) (summand_within first facts (fact_within first) (facts_within facts)) (summands_within others)
+
+      fact_within : (fact : RawFactor) → fact_sites (factor_of texts names scope fact) ≤ sites (fact_notes scope fact)
+      fact_within (raw_factor.Number number) = omega arith
+      fact_within (Paren' shape (more_of-RawValue value end_of-RawValue)) = rw (append-nil (value_notes scope value)) (value_within value)
+      fact_within (raw_factor.Name atom) = named_within (out-RawAtom atom).name (out-RawAtom atom).at
+
+    assign_within : (assign : RawAssign) → assign_sites (assign_of texts names scope assign) ≤ sites (assign_notes scope assign)
+    assign_within assign =
+        omega (
+          arith,
+          counted (note assign.array (Used true spot_is.Target scope)) (body_notes scope assign.at ++ value_notes scope assign.value) refl,
+          both (body_notes scope assign.at) (value_notes scope assign.value),
+          value_within assign.value,
+        )
+
+    guard_within : (guard : RawGuard) → guard_sites (guard_of texts names scope guard) ≤ sites (guard_notes scope guard)
+    guard_within guard =
+        inside_last (note (ix_head guard.first.left) Guard ∷ cond_notes scope guard.first ++ flat_map (cond_notes scope) guard.others) (flat_map (assign_notes scope) guard.body)
+        (sums_within assign_sites (assign_of texts names scope) (assign_notes scope) assign_within guard.body)
+
+    part_within : (part : RawPart) → part_sites (part_of texts names scope part) ≤ sites (part_notes scope part)
+    part_within (raw_part.Assign assign) = assign_within assign
+    part_within (raw_part.Guard guard) = guard_within guard
+
+  item_within : (outer : Token) (item : RawItem) → item_sites (item_of texts names outer item) ≤ sites (item_notes outer item)
+  item_within outer (raw_item.Part (raw_part.Assign assign)) = assign_within (within outer) assign
+  item_within outer (raw_item.Part (raw_part.Guard guard)) = guard_within (within outer) guard
+  item_within outer (raw_item.Inner range parts) =
+      let scope = inside outer range.var in
+      inside_last (note range.var (Variable (Some outer)) ∷ body_notes (within outer) range.low ++ body_notes (within outer) range.high) (flat_map (part_notes scope) parts)
+      (sums_within part_sites (part_of texts names scope) (part_notes scope) (part_within scope) parts)
+
+  loop_within : (each : RawLoop) → loop_sites (loop_of texts names each) ≤ sites (loop_notes each)
+  unfolding loop_notes
+  loop_within each =
+      let items = item_notes each.range.var in
+      inside_last (note each.name (Declared sort_is.Loop) ∷ note each.range.var (Variable None) ∷ bound_notes each.range.low ++ bound_notes each.range.high) (flat_map items each.items)
+      (sums_within item_sites (item_of texts names each.range.var) items (item_within each.range.var) each.items)
+
+  tree_within : (raw : RawKernel) → data_sites (tree_of texts names raw) ≤ sites (kernel_notes raw)
+  unfolding kernel_notes
+  tree_within raw =
+      inside_last (flat_map decl_notes raw.decls ++ head_notes raw.steps) (flat_map loop_notes raw.loops) (sums_within loop_sites (loop_of texts names) loop_notes loop_within raw.loops)
+
+pub few_data_sites : (tree : Tree) → IsParsed tree → data_sites tree ≤ 256
+few_data_sites tree parsed =
+    let parses = parsed.parses in
+    let all = texts parsed.tokens in
+    let notes = kernel_notes parses.raw in
+    omega (arith, ap data_sites parses.means, tree_within all (names_of all notes) parses.raw, few_sites all notes parses.unbroken)

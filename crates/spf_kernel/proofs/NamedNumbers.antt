@@ -1,0 +1,37 @@
+-- The number of a declared name is below the number of declared names, and the name of that number is the name.
+use Rattle.std.proofs.Common.{◌≡◌, ℕ, suc, ◌+◌, ◌<◌, Bool, true, false, not, cond, ◌||◌, List, [], ◌∷◌, length, refl, ap, sym, ◌∙◌, true≢false, arith}
+use Rattle.std.specs.List.{list_any}
+use Rattle.std.specs.Str.{bytes_eq}
+use Rattle.std.proofs.lemmas.Slice.Eq.{bytes_eq-Decides}
+use Rattle.spf_kernel.specs.declared.token.Token.{Token}
+use Rattle.spf_kernel.specs.declared.note.Note.{Note}
+use Rattle.spf_kernel.specs.declared.note.Says.{Says}
+use Rattle.spf_kernel.specs.Names.{number_of}
+use Rattle.spf_kernel.specs.Before.{names_that}
+use Rattle.spf_kernel.specs.Rules.{text_of, tokens_that, declares}
+use Rattle.spf_kernel.specs.TreeNames.{name_at}
+use Rattle.spf_kernel.proofs.NameLists.{list_any-map}
+
+-- the number of a name among others
+pub record IsNumberOf (names : List (List ℕ)) (name : List ℕ) (number : ℕ) : Type 0 where
+  pub below : number < length names
+  pub named : name_at names number ≡ name
+
+one_behind : (first : List ℕ) (names : List (List ℕ)) (name : List ℕ) (number : ℕ) → IsNumberOf names name number → IsNumberOf (first ∷ names) name (1 + number)
+one_behind first names name number is =
+    let next : 1 + number ≡ suc number = omega arith in
+    record { below = omega (arith, is.below); named = ap (name_at (first ∷ names)) next ∙ is.named }
+
+pub number_found : (names : List (List ℕ)) (name : List ℕ) → list_any (bytes_eq name) names ≡ true → IsNumberOf names name (number_of names name)
+number_found [] name found = absurd (true≢false (sym found))
+number_found (first ∷ names) name found = by (bytes_eq name first) refl (number_found names name) found where
+  by : (b : Bool) → bytes_eq name first ≡ b → (list_any (bytes_eq name) names ≡ true → IsNumberOf names name (number_of names name)) → b || list_any (bytes_eq name) names ≡ true
+      → IsNumberOf (first ∷ names) name (cond (not b) (1 + number_of names name) 0)
+  by true same more found = record { below = omega arith; named = sym ((bytes_eq-Decides name first).0 same) }
+  by false same more found = one_behind first names name (number_of names name) (more found)
+
+-- a name that some note declares to be this
+pub declared_below : (texts : List (List ℕ)) (test : Says → Bool) (notes : List Note) (name : Token) → declares texts test notes name ≡ true
+    → number_of (names_that texts test notes) (text_of texts name) < length (names_that texts test notes)
+declared_below texts test notes name declared =
+    (number_found (names_that texts test notes) (text_of texts name) (list_any-map (text_of texts) (bytes_eq (text_of texts name)) (tokens_that test notes) ∙ declared)).below

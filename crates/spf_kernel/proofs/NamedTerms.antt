@@ -1,0 +1,200 @@
+-- Where all used names fit, index expressions and values are named.
+use Rattle.std.proofs.Common.{◌≡◌, ℕ, ◌<◌, Bool, true, false, ◌||◌, ◌&&◌, List, [], ◌∷◌, ◌++◌, length, Option, None, Some, is_some, refl, sym, ◌∙◌, subst, arith}
+use Rattle.std.specs.Prelude.{ℤ, if◌then◌else◌}
+use Rattle.std.specs.List.{AllByRecursion}
+use Rattle.std.specs.Str.{bytes_eq}
+use Rattle.spf_base.specs.Wrap.{wrap}
+use Rattle.spf_lex.proofs.Leaves.{split_each, join_each}
+use Rattle.spf_term.specs.declared.term.Term.{Term, Term', out-Term, roll-Term, out-roll-Term, Row_of-Mono, end_of-Mono, more_of-Mono, items-the_row-Mono, items_shown-the_row-Mono-0}
+use Rattle.spf_term.specs.declared.term.Mono.{Mono}
+use Rattle.spf_kernel.specs.declared.token.Token.{Token}
+use Rattle.spf_kernel.specs.declared.note.Note.{Note}
+use Rattle.spf_kernel.specs.declared.note.Spot.{Spot}
+use Rattle.spf_kernel.specs.declared.note.Spot.TheVariants as spot_is
+use Rattle.spf_kernel.specs.declared.note.Scope.{Scope}
+use Rattle.spf_kernel.specs.declared.raw.RawIx.{RawIx, RawIx', Row_of-RawStep, end_of-RawStep, more_of-RawStep}
+use Rattle.spf_kernel.specs.declared.raw.RawMono.{RawMono, Number', RawMono-Number-1-None', RawMono-Number-1-Some'}
+use Rattle.spf_kernel.specs.declared.raw.RawMono as raw_mono
+use Rattle.spf_kernel.specs.declared.raw.RawAtom.{RawAtom, out-RawAtom, RawAtom', RawAtom-at-None', RawAtom-at-Some', end_of-RawIx, more_of-RawIx}
+use Rattle.spf_kernel.specs.declared.raw.RawValue.{RawValue, RawValue', Row_of-RawFactor, end_of-RawFactor, more_of-RawFactor, Row_of-RawSummand, end_of-RawSummand, more_of-RawSummand}
+use Rattle.spf_kernel.specs.declared.raw.RawFactor.{RawFactor, Paren', end_of-RawValue, more_of-RawValue}
+use Rattle.spf_kernel.specs.declared.raw.RawFactor.TheVariants as raw_factor
+use Rattle.spf_kernel.specs.declared.tree.Value.{Value, Value', out-Value, roll-Value, out-roll-Value, Row_of-Prod, end_of-Prod, more_of-Prod, items-the_row-Prod, items_shown-the_row-Prod-1, Row_of-Factor, end_of-Factor, more_of-Factor, items-the_row-Factor, items_shown-the_row-Factor-0}
+use Rattle.spf_kernel.specs.declared.tree.Prod.{Prod}
+use Rattle.spf_kernel.specs.declared.tree.Factor.TheVariants as factor
+use Rattle.spf_kernel.specs.Names.{Names, names_of}
+use Rattle.spf_kernel.specs.Named.{NameCounts, IsNamedTerm, AreNamedMonos, IsNamedAtom, IsNamedValue, AreNamedProds, AreNamedFactors, IsNamedFactor}
+use Rattle.spf_kernel.specs.Notes.{ix_notes, steps_notes, mono_notes, atom_notes, value_notes, facts_notes, summands_notes, fact_notes, body_notes, subscript_notes}
+use Rattle.spf_kernel.specs.Resolved.{constant_of, variable_of, param_of, table_of, data_array_of, is_data_array, bare_atom, bare_factor, term_of, more_monos, monos_of, atom_of, factor_at, value_of, more_factors, more_prods, factor_of, product}
+use Rattle.spf_kernel.specs.Rules.{is_param, is_table, is_data, names_variable, takes_data, takes_table, declares, fits, text_of, tokens_that}
+use Rattle.spf_kernel.proofs.NameLists.{list_any-map}
+use Rattle.spf_kernel.proofs.NamedNumbers.{declared_below}
+use Rattle.spf_kernel.proofs.NamedUses.{AreFitting, IsFitting}
+
+-- ---- terms and values made of lists
+
+module _ (counts : NameCounts) (variables : ℕ) where
+  abbrev pub IsNamedMono : Mono → Type 0
+  IsNamedMono mono = IsNamedAtom counts variables mono.atom
+
+  monos_named : {n : _} (row : Row_of-Mono n) → AllByRecursion IsNamedMono (items-the_row-Mono n row) → AreNamedMonos counts variables row
+  monos_named end_of-Mono each = tt
+  monos_named (more_of-Mono coef atom others) each = (each.0, monos_named others each.1)
+
+  term_named_by : (term : Term) → AllByRecursion IsNamedMono (out-Term term).monos → IsNamedTerm counts variables term
+  unfolding out-Term denote.Hole.Carrier.out
+  term_named_by (Term' shape monos constant) each = monos_named monos (subst (AllByRecursion IsNamedMono) (items_shown-the_row-Mono-0 shape monos) each)
+
+  pub rolled_term : (monos : List Mono) (constant : ℤ) → AllByRecursion IsNamedMono monos → IsNamedTerm counts variables (roll-Term (record { monos = monos; constant = constant }))
+  rolled_term monos constant each = term_named_by (roll-Term (record { monos = monos; constant = constant })) (rw (out-roll-Term (record { monos = monos; constant = constant })) each)
+
+  abbrev pub IsNamedProd : Prod → Type 0
+  IsNamedProd prod = AllByRecursion (IsNamedFactor counts variables) prod.facts
+
+  factors_named : {n : _} (row : Row_of-Factor n) → AllByRecursion (IsNamedFactor counts variables) (items-the_row-Factor n row) → AreNamedFactors counts variables row
+  factors_named end_of-Factor each = tt
+  factors_named (more_of-Factor fact others) each = (each.0, factors_named others each.1)
+
+  prods_named : {n : _} (row : Row_of-Prod n) → AllByRecursion IsNamedProd (items-the_row-Prod n row) → AreNamedProds counts variables row
+  prods_named end_of-Prod each = tt
+  prods_named (more_of-Prod minus shape facts others) each =
+      (factors_named facts (subst (AllByRecursion (IsNamedFactor counts variables)) (items_shown-the_row-Factor-0 shape facts) each.0), prods_named others each.1)
+
+  value_named_by : (value : Value) → AllByRecursion IsNamedProd (out-Value value).prods → IsNamedValue counts variables value
+  unfolding out-Value denote.Hole.Carrier.out
+  value_named_by (Value' shape prods) each = prods_named prods (subst (AllByRecursion IsNamedProd) (items_shown-the_row-Prod-1 shape prods) each)
+
+  pub rolled_value : (prods : List Prod) → AllByRecursion IsNamedProd prods → IsNamedValue counts variables (roll-Value (record { prods = prods }))
+  rolled_value prods each = value_named_by (roll-Value (record { prods = prods })) (rw (out-roll-Value (record { prods = prods })) each)
+
+-- ---- names that fit
+
+-- as many as there are of these names
+abbrev pub counts_of_names : Names → NameCounts
+counts_of_names names = record { params = length names.params; tables = length names.tables; arrays = length names.data_arrays }
+
+-- each variable in scope has a number below this
+abbrev pub HasVariables : List (List ℕ) → Scope → ℕ → Type 0
+HasVariables texts scope variables = (name : Token) (variable : ℕ) → variable_of texts scope name ≡ Some variable → variable < variables
+
+module _ (texts : List (List ℕ)) (notes : List Note) (scope : Scope) (variables : ℕ) (has : HasVariables texts scope variables) where
+  abbrev names : Names
+  names = names_of texts notes
+
+  abbrev counts : NameCounts
+  counts = counts_of_names names
+
+  -- a variable in scope, or else a declared parameter
+  abbrev IsBare : Option ℕ → Token → Type 0
+  IsBare (Some variable) name = variable < variables
+  IsBare None name = param_of texts names name < counts.params
+
+  bare : (spot : Spot) (name : Token) → fits texts notes name false spot scope ≡ true → IsBare (variable_of texts scope name) name
+  bare spot name fit = by (variable_of texts scope name) (has name) param where
+    by : (found : Option ℕ) → ((variable : ℕ) → found ≡ Some variable → variable < variables) → (found ≡ None → param_of texts names name < counts.params) → IsBare found name
+    by (Some variable) below other = below variable refl
+    by None below other = other refl
+
+    number_from : Bool → Bool → Option ℕ
+    number_from outer inner = if outer then Some 0 else (if inner then Some 1 else None)
+
+    declared : (outer inner param : Bool) → (outer || inner) || param ≡ true → number_from outer inner ≡ None → param ≡ true
+    declared true inner param fit none = absurd cc
+    declared false true param fit none = absurd cc
+    declared false false param fit none = fit
+
+    param : variable_of texts scope name ≡ None → param_of texts names name < counts.params
+    param none = declared_below texts is_param notes name (declared (names_variable texts scope.outer name) (names_variable texts scope.inner name) (declares texts is_param notes name) fit none)
+
+  atom_bare : (name : Token) (variable : Option ℕ) → IsBare variable name → IsNamedAtom counts variables (bare_atom texts names variable name)
+  atom_bare name (Some variable) below = below
+  atom_bare name None below = below
+
+  factor_bare : (name : Token) (variable : Option ℕ) → IsBare variable name → IsNamedFactor counts variables (bare_factor texts names variable name)
+  factor_bare name (Some variable) below = below
+  factor_bare name None below = below
+
+  -- ---- index expressions
+
+  module _ (spot : Spot) (no_data : takes_data texts spot ≡ false) where
+    table : (name : Token) → fits texts notes name true spot scope ≡ true → table_of texts names name < counts.tables
+    table name fit = declared_below texts is_table notes name (by (takes_table texts spot) (declares texts is_table notes name) (takes_data texts spot) (declares texts is_data notes name) no_data fit) where
+      by : (takes_t t takes_d d : Bool) → takes_d ≡ false → (takes_t && t) || (takes_d && d) ≡ true → t ≡ true
+      by takes_t t takes_d d none fit = grind arith
+
+    mutual
+      pub term_named : (x : RawIx) → AreFitting texts notes (ix_notes spot scope x) → IsNamedTerm counts variables (term_of texts names scope x)
+      term_named (RawIx' lead first shape others) each =
+          let parts = split_each (IsFitting texts notes) (mono_notes spot scope first) (steps_notes spot scope others) each in
+          rolled_term counts variables (monos_of texts names scope (is_some lead) first ++ more_monos texts names scope others) (wrap (constant_of (RawIx' lead first shape others)))
+          (join_each (IsNamedMono counts variables) (monos_of texts names scope (is_some lead) first) (more_monos texts names scope others) (mono_named (is_some lead) first parts.0) (steps_named others parts.1))
+
+      steps_named : {n : _} (row : Row_of-RawStep n) → AreFitting texts notes (steps_notes spot scope row) → AllByRecursion (IsNamedMono counts variables) (more_monos texts names scope row)
+      steps_named end_of-RawStep each = tt
+      steps_named (more_of-RawStep minus mono others) each =
+          let parts = split_each (IsFitting texts notes) (mono_notes spot scope mono) (steps_notes spot scope others) each in
+          join_each (IsNamedMono counts variables) (monos_of texts names scope minus mono) (more_monos texts names scope others) (mono_named minus mono parts.0) (steps_named others parts.1)
+
+      mono_named : (minus : Bool) (x : RawMono) → AreFitting texts notes (mono_notes spot scope x) → AllByRecursion (IsNamedMono counts variables) (monos_of texts names scope minus x)
+      mono_named minus (Number' number RawMono-Number-1-None') each = tt
+      mono_named minus (Number' number (RawMono-Number-1-Some' atom)) each = (atom_named atom each.1.1, tt)
+      mono_named minus (raw_mono.Atom atom) each = (atom_named atom each.1, tt)
+
+      atom_named : (x : RawAtom) → AreFitting texts notes (atom_notes spot scope x) → IsNamedAtom counts variables (atom_of texts names scope x)
+      atom_named (RawAtom' name RawAtom-at-None') each = atom_bare name (variable_of texts scope name) (bare spot name each.0)
+      atom_named (RawAtom' name (RawAtom-at-Some' shape (more_of-RawIx ix end_of-RawIx))) each =
+          let parts = split_each (IsFitting texts notes) (ix_notes spot scope ix) [] each.1 in
+          (table name each.0, term_named ix parts.0)
+
+  pub body_named : (x : RawIx) → AreFitting texts notes (body_notes scope x) → IsNamedTerm counts variables (term_of texts names scope x)
+  body_named x each = term_named spot_is.Body refl x each.1
+
+  -- ---- values
+
+  -- a name, and what stands in the brackets behind it
+  at_named : (name : Token) (at : Option RawIx) → fits texts notes name (is_some at) spot_is.Factor scope ≡ true → AreFitting texts notes (subscript_notes scope at) → IsNamedFactor counts variables (factor_at texts names scope name at)
+  at_named name None fit each = factor_bare name (variable_of texts scope name) (bare spot_is.Factor name fit)
+  at_named name (Some ix) fit each = by (is_data_array texts names name) cell table_entry where
+    cell : is_data_array texts names name ≡ true → data_array_of texts names name < counts.arrays
+    cell e = declared_below texts is_data notes name (sym (list_any-map (text_of texts) (bytes_eq (text_of texts name)) (tokens_that is_data notes)) ∙ e)
+
+    left : (t d : Bool) → t || d ≡ true → d ≡ false → t ≡ true
+    left t d fit none = grind arith
+
+    table_entry : is_data_array texts names name ≡ false → table_of texts names name < counts.tables
+    table_entry e =
+        let none : declares texts is_data notes name ≡ false = sym (list_any-map (text_of texts) (bytes_eq (text_of texts name)) (tokens_that is_data notes)) ∙ e in
+        declared_below texts is_table notes name (left (declares texts is_table notes name) (declares texts is_data notes name) fit none)
+
+    by : (b : Bool) → (b ≡ true → data_array_of texts names name < counts.arrays) → (b ≡ false → table_of texts names name < counts.tables)
+        → IsNamedFactor counts variables (if b then factor.Cell (data_array_of texts names name) (term_of texts names scope ix) else factor.Index (table_of texts names name) (term_of texts names scope ix))
+    by true cell entry = (cell refl, body_named ix each)
+    by false cell entry = (entry refl, body_named ix each)
+
+  mutual
+    pub value_named : (x : RawValue) → AreFitting texts notes (value_notes scope x) → IsNamedValue counts variables (value_of texts names scope x)
+    value_named (RawValue' minus first shape facts shape_of_others others) each =
+        let parts = split_each (IsFitting texts notes) (fact_notes scope first ++ facts_notes scope facts) (summands_notes scope others) each in
+        let here = split_each (IsFitting texts notes) (fact_notes scope first) (facts_notes scope facts) parts.0 in
+        rolled_value counts variables (product minus (factor_of texts names scope first ∷ more_factors texts names scope facts) ∷ more_prods texts names scope others)
+        ((fact_named first here.0, facts_named facts here.1), summands_named others parts.1)
+
+    facts_named : {n : _} (row : Row_of-RawFactor n) → AreFitting texts notes (facts_notes scope row) → AllByRecursion (IsNamedFactor counts variables) (more_factors texts names scope row)
+    facts_named end_of-RawFactor each = tt
+    facts_named (more_of-RawFactor fact others) each =
+        let parts = split_each (IsFitting texts notes) (fact_notes scope fact) (facts_notes scope others) each in
+        (fact_named fact parts.0, facts_named others parts.1)
+
+    summands_named : {n : _} (row : Row_of-RawSummand n) → AreFitting texts notes (summands_notes scope row) → AllByRecursion (IsNamedProd counts variables) (more_prods texts names scope row)
+    summands_named end_of-RawSummand each = tt
+    summands_named (more_of-RawSummand minus first shape facts others) each =
+        let parts = split_each (IsFitting texts notes) (fact_notes scope first ++ facts_notes scope facts) (summands_notes scope others) each in
+        let here = split_each (IsFitting texts notes) (fact_notes scope first) (facts_notes scope facts) parts.0 in
+        ((fact_named first here.0, facts_named facts here.1), summands_named others parts.1)
+
+    fact_named : (x : RawFactor) → AreFitting texts notes (fact_notes scope x) → IsNamedFactor counts variables (factor_of texts names scope x)
+    fact_named (raw_factor.Number number) each = tt
+    fact_named (Paren' shape (more_of-RawValue inside end_of-RawValue)) each =
+        let parts = split_each (IsFitting texts notes) (value_notes scope inside) [] each in
+        value_named inside parts.0
+    fact_named (raw_factor.Name atom) each = at_named (out-RawAtom atom).name (out-RawAtom atom).at each.1.0 each.1.1

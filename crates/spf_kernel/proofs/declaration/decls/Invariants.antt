@@ -1,8 +1,0 @@
-use Rattle.std.proofs.Common.{◌≡◌, ◌-◌}
-use Rattle.spf_kernel.specs.Reader.{many}
-use Rattle.spf_kernel.specs.Reading.{begins_decl, decl}
-use Rattle.spf_kernel.proofs.Turns.{Rest}
-use Rattle.spf_kernel.proofs.declaration.decls.Given as goal
-
-abbrev pub invariant-loop-turn : goal.invariant-loop-turn
-invariant-loop-turn l = many begins_decl decl l.fn.tokens ≡ Rest begins_decl decl l.all (l._turn-end - l._turn) l.tokens

@@ -1,0 +1,9 @@
+use Rattle.std.proofs.Common.{arith}
+use Rattle.spf_kernel.proofs.FewSites.{few_data_sites}
+use Rattle.spf_kernel.proofs.kernel.Kernel.data_sites.Goals as goal
+
+pub data_sites-requires : goal.data_sites-requires
+data_sites-requires c = few_data_sites c.tree.result.now c.tree.ensures.parsed
+
+pub returns-clause-few : goal.returns-clause-few
+returns-clause-few c = omega (arith, few_data_sites c.tree.result.now c.tree.ensures.parsed, c.data_sites.ensures)
