@@ -84,3 +84,23 @@ fn a_fault_stands_at_the_first_token_that_no_kernel_has_there(rt: HostRuntime) -
     one_raw_tree();
     Ok(())
 }
+
+#[test]
+fn targets_and_elements_in_values_are_data_sites(rt: HostRuntime) -> Result<(), Fail> {
+    let table: [(&[u8], u32); 4] = [
+        (b"kernel { data x[2]; steps 1; }", 0),
+        (
+            b"kernel { data x[2]; steps 1; loop a (i in 0 .. 2) { x[i] = 2 * (x[0] - (x[1])); } }",
+            3,
+        ),
+        (MOLDYN, 11),
+        (SWEEP, 5),
+    ];
+    for (text, sites) in table {
+        assert!(rt; text.len() <= 67_108_864);
+        let tokens = tokens(rt.alloc(), text)?;
+        let (kernel, _) = parse(rt.alloc(), &tokens, 0)?;
+        assert_eq!(rt; kernel.data_sites(), sites);
+    }
+    Ok(())
+}
