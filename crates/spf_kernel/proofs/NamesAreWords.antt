@@ -1,16 +1,16 @@
 -- The names that a kernel declares are words.
-use Rattle.std.proofs.Common.{◌≡◌, ℕ, ◌+◌, Bool, true, false, List, [], ◌∷◌, ◌++◌, length, drop, get_or, map, flat_map, filter, All, Option, Some, None, refl, sym, ◌∙◌, true≢false, inl, inr, arith, append_assoc, length-append}
+use Rattle.std.proofs.Common.{◌≡◌, ℕ, Bool, true, false, List, [], ◌∷◌, ◌++◌, drop, get_or, map, flat_map, filter, All, Option, Some, None, refl, sym, ◌∙◌, true≢false, inl, inr, arith}
 use Rattle.std.specs.Prelude.{if◌then◌else◌}
 use Rattle.std.specs.Char.{is_ascii_alphabetic}
 use Rattle.std.specs.List.{AllByRecursion}
 use Rattle.std.proofs.lemmas.Bool.Decides.{nat_tests}
-use Rattle.std.proofs.lemmas.List.Elements.{All-head, All-tail, All-cons, All-nil, All-drop, All-from_recursion, recursion_from_All}
+use Rattle.std.proofs.lemmas.List.Elements.{All-cons, All-nil}
 use Rattle.spf_base.specs.Word.{IsLetter, IsName}
 use Rattle.spf_lex.specs.Derivation.{Derivation}
 use Rattle.spf_lex.specs.Grammar.{One, Then}
 use Rattle.spf_lex.specs.Lexeme.{number_of}
 use Rattle.spf_lex.specs.Tokens.{IsTokenText}
-use Rattle.spf_lex.proofs.Leaves.{split_each, join_each, Leaves, spelled_leaves}
+use Rattle.spf_lex.proofs.Leaves.{join_each, Leaves}
 use Rattle.spf_lex.proofs.Lexemes.{lexeme_is_word}
 use Rattle.spf_kernel.specs.declared.kind.Kind.{Kind}
 use Rattle.spf_kernel.specs.declared.kind.Kind.TheVariants as kind
@@ -22,14 +22,15 @@ use Rattle.spf_kernel.specs.declared.note.Note.{Note}
 use Rattle.spf_kernel.specs.declared.note.Spot.{Spot}
 use Rattle.spf_kernel.specs.declared.note.Spot.TheVariants as spot_is
 use Rattle.spf_kernel.specs.declared.note.Scope.{Scope}
-use Rattle.spf_kernel.specs.IsKernel.{kind_of, IsKernel}
+use Rattle.spf_kernel.specs.IsKernel.{IsKernel}
 use Rattle.spf_kernel.specs.Kind.{word_kind_of, symbol_kind_of}
 use Rattle.spf_kernel.specs.KernelGrammar.{range, inner, item, loop, params, sized, index, values, decl, kernel}
 use Rattle.spf_kernel.specs.Notes.{expression_notes, part_notes, item_notes, loop_notes, head_notes, bound_notes, body_notes, param_note, cells_notes, decl_notes, kernel_notes}
 use Rattle.spf_kernel.specs.Scopes.{within, inside, nothing}
 use Rattle.spf_kernel.specs.RawTree.{ix_in, sized_in, range_in, part_in, item_in, loop_in, decl_in, kernel_in}
 use Rattle.spf_kernel.specs.Rules.{is_naming, tokens_that, text_of}
-use Rattle.spf_kernel.specs.Token.{fixed_kind_of, kind_and_value, token_of, numbered, tokens_of}
+use Rattle.spf_kernel.specs.Token.{fixed_kind_of, kind_and_value, token_of, tokens_of}
+use Rattle.spf_kernel.proofs.TextTokens.{standing_leaves}
 use Rattle.spf_kernel.proofs.NothingNamed.{each_of_flat_map, expression_each, part_each}
 
 -- ---- a token of kind `Name` is a word
@@ -51,12 +52,6 @@ name_by : (text : List ℕ) (number : Option ℕ) → IsTokenText text → (kind
 name_by text None is_token e = fixed_name text is_token e
 name_by text (Some n) is_token e = absurd (grind arith)
 
--- ---- the tokens of texts
-
-text_behind : (front : List (List ℕ)) (text : List ℕ) (rest : List (List ℕ)) → get_or (front ++ text ∷ rest) (length front) [] ≡ text
-text_behind [] text rest = refl
-text_behind (t ∷ front) text rest = text_behind front text rest
-
 module _ (texts : List (List ℕ)) where
   -- a token that is a name where the grammar wants one is a word
   abbrev pub IsWordAt : Kind → Token → Type 0
@@ -69,17 +64,6 @@ module _ (texts : List (List ℕ)) where
   token_is_word : (at : ℕ) (text : List ℕ) → get_or texts at [] ≡ text → IsTokenText text → IsWordToken (token_of at text)
   unfolding token_of
   token_is_word at text there is_token e = rw there (name_by text (number_of text) is_token e)
-
-  rest_are_words : (at : ℕ) (front rest : List (List ℕ)) → at ≡ length front → texts ≡ front ++ rest → All IsTokenText rest → AllByRecursion IsWordToken (numbered at rest)
-  rest_are_words at front [] e is each = tt
-  rest_are_words at front (text ∷ rest) e is each =
-      let there : get_or texts at [] ≡ text = rw (is, e) (text_behind front text rest) in (
-        token_is_word at text there (All-head IsTokenText text rest each),
-        rest_are_words (at + 1) (front ++ text ∷ []) rest (omega (arith, length-append front (text ∷ []))) (is ∙ sym (append_assoc front (text ∷ []) rest)) (All-tail IsTokenText text rest each),
-      )
-
-  tokens_are_words : All IsTokenText texts → AllByRecursion IsWordToken (tokens_of texts)
-  tokens_are_words each = rest_are_words 0 [] texts refl refl each
 
   -- ---- what a derivation names
 
@@ -199,9 +183,5 @@ pub names_are_words : (texts : List (List ℕ)) (n m : ℕ) (front : List Token)
     → drop n (tokens_of texts) ≡ front ++ drop m (tokens_of texts) → IsKernel front raw
     → All (λ t. IsName (text_of texts t)) (tokens_that is_naming (kernel_notes raw))
 names_are_words texts n m front raw each splits (derivation, spells, tree) =
-    let P : Token → Type 0 = λ t. IsWordAt texts t.kind t in
-    let tokens = tokens_of texts in
-    let behind : AllByRecursion P (drop n tokens) = recursion_from_All P (drop n tokens) (All-drop P n tokens (All-from_recursion P tokens (tokens_are_words texts each))) in
-    let here = split_each P front (drop m tokens) (rw splits at behind) in
-    let leaves = spelled_leaves kind_of (IsWordAt texts) kernel front derivation spells here.0 in
+    let leaves = standing_leaves texts (IsWordAt texts) (token_is_word texts) n m front each splits derivation spells in
     rw tree (named_tokens texts (kernel_notes (kernel_in derivation)) (kernel_names texts derivation leaves))

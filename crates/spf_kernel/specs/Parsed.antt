@@ -1,7 +1,8 @@
 -- The kernels that a text holds, and what reading one answers.
-use Rattle.std.specs.Prelude.{ℕ, ◌≡◌, List, Result, Ok, Err, ⊤}
+use Rattle.std.specs.Prelude.{ℕ, ◌≡◌, List, length, Result, Ok, Err, ⊤}
 use Rattle.spf_base.specs.declared.place.Place.{Place}
-use Rattle.spf_lex.specs.Tokens.{Tokenized, IsTokenized, texts}
+use Rattle.spf_lex.specs.declared.token_list.Span.{Span}
+use Rattle.spf_lex.specs.Tokens.{Tokenized, IsTokenized, HasTokens, texts}
 use Rattle.spf_kernel.specs.declared.raw.RawKernel.{RawKernel}
 use Rattle.spf_kernel.specs.declared.tree.Tree.{Tree}
 use Rattle.spf_kernel.specs.declared.fault.KernelFault.{KernelFault}
@@ -38,6 +39,12 @@ pub record IsParsed (tree : Tree) : Type 0 where
   pub from : ℕ
   pub next : ℕ
   pub parses : ParsesTo tokens from next tree
+
+-- the tokens of the text, from the first to the last, are a kernel that breaks no rule, and means this tree
+pub record IsTextOf (text : List ℕ) (tree : Tree) : Type 0 where
+  pub spans : List Span
+  pub tokens : HasTokens text spans
+  pub parses : ParsesTo (record { text = text; spans = spans }) 0 (length spans) tree
 
 -- what `parse` answers; want of memory is free
 abbrev pub IsAnswer : Tokenized → ℕ → Result (Tree × ℕ) KernelFault → Type 0

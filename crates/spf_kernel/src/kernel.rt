@@ -1,14 +1,17 @@
 //! A kernel that keeps the rules, and reading one.
 
-ghost use Rattle.std.specs.Prelude.{◌≡◌, ◌≤◌, ℕ, length, IfOk, Ok};
+ghost use Rattle.std.specs.Prelude.{◌≡◌, ◌≤◌, ◌⊎◌, ℕ, length, Result, IfOk, Ok, Err};
 ghost use Rattle.spf_lex.specs.Joined.{joined};
-ghost use Rattle.spf_lex.specs.Tokens.{IsTokenized, texts};
+ghost use Rattle.spf_lex.specs.Tokens.{Tokenized, IsTokenized, texts};
+ghost use Rattle.spf_kernel.specs.declared.fault.KernelFault.{KernelFault};
+ghost use Rattle.spf_kernel.specs.declared.fault.KernelFault.TheVariants.{Memory};
+ghost use Rattle.spf_kernel.specs.declared.tree.Tree.{Tree};
 ghost use Rattle.spf_kernel.specs.Checked.{Checked};
 ghost use Rattle.spf_kernel.specs.Named.{IsNamed};
 ghost use Rattle.spf_kernel.specs.Notes.{kernel_notes};
 ghost use Rattle.spf_kernel.specs.Resolved.{tree_of};
 ghost use Rattle.spf_kernel.specs.Stands.{StandsAt};
-ghost use Rattle.spf_kernel.specs.Parsed.{IsParsed, IsAnswer};
+ghost use Rattle.spf_kernel.specs.Parsed.{IsParsed, IsTextOf, IsAnswer, ParsesTo};
 ghost use Rattle.spf_kernel.specs.Printed.{words_of};
 
 use crate::fault::KernelFault;
@@ -106,10 +109,18 @@ pub fn parse(alloc: Global, tokens: &Tokens, from: u32) -> Result<(Kernel, u32),
     judge(alloc, tokens, &raw, next)
 }
 
+/// A law, which does nothing when it is called: where a kernel that breaks no rule stands, its tree is the only answer that
+/// `parse` may give, besides want of memory.
+pub fn one_answer()
+    ensures { (tokens : Tokenized) (from next : ℕ) (tree : Tree) (answer : Result (Tree × ℕ) KernelFault) →
+        ParsesTo tokens from next tree → IsAnswer tokens from answer → (answer ≡ Ok (tree, next)) ⊎ (answer ≡ Err Memory) }
+{}
+
 /// A text of the kernel: the words of its tree, production by production, with a blank between two. Linear in the tree and
 /// in how many numbers its constants are written as.
 pub fn print(alloc: Global, kernel: &Kernel) -> Result<Vec<u8>, NoMemory>
-    ensures { IfOk result (λ text. text.items ≡ joined (words_of kernel.now)) }
+    ensures words { IfOk result (λ text. text.items ≡ joined (words_of kernel.now)) }
+    ensures parsed { IfOk result (λ text. IsTextOf text.items kernel.now) }
 {
     tree_text(alloc, kernel.tree())
 }

@@ -9,9 +9,9 @@
 //! Upward the crate gives one contract: `parse` answers the tree of the kernel that stands at a token and breaks no rule, or
 //! the exact fault of syntax, or the least place and the least rule that is broken there (`IsAnswer`); at most one kernel
 //! stands there (`one_kernel_stands`). A `Kernel` keeps that some text is parsed to it, so that each number in its tree names
-//! something declared, or a variable in scope (`IsNamed`); and `print` gives the words of its tree (`Printed`).
-//! It tells the names of its loops and data arrays by their numbers, and how many data sites its loops have
-//! (`Kernel::loop_name`, `Kernel::data_name`, `Kernel::data_sites`).
+//! something declared, or a variable in scope (`IsNamed`); and `print` gives the words of its tree (`Printed`), a text that
+//! is parsed to the same tree (`IsTextOf`, `one_answer`). It tells the names of its loops and data arrays by their numbers,
+//! and how many data sites its loops have (`Kernel::loop_name`, `Kernel::data_name`, `Kernel::data_sites`).
 //!
 //! The crate stands on spf_lex for tokens, written words and the theorem on grammars, on spf_term for the terms that index
 //! expressions are, and on spf_base for names, places and want of memory; indexmap keeps the declared names. Parsing is
@@ -53,7 +53,7 @@ mod value;
 pub use cursor::{Cursor, ReadFault};
 pub use fault::KernelFault;
 pub use found::one_kernel_stands;
-pub use kernel::{Kernel, parse, print};
+pub use kernel::{Kernel, one_answer, parse, print};
 pub use kind::Kind;
 pub use raw_kernel::{names_are_words, one_raw_tree, read_kernel};
 pub use token::{Token, classify};

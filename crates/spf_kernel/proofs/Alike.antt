@@ -1,0 +1,244 @@
+-- How notes that tell the same as others are put together from parts that do.
+use Rattle.std.proofs.Common.{◌≡◌, ℕ, zero, suc, ◌≤◌, ◌<◌, ◌+◌, Bool, true, false, cond, List, [], ◌∷◌, ◌++◌, Option, None, refl, ap, sym, ◌∙◌, subst, true≢false, arith}
+use Rattle.std.specs.Prelude.{⊤, option_map}
+use Rattle.std.specs.List.{AllByRecursion}
+use Rattle.std.proofs.lemmas.Grind.{flat_map-append}
+use Rattle.spf_lex.proofs.Leaves.{join_each}
+use Rattle.spf_kernel.specs.declared.token.Token.{Token}
+use Rattle.spf_kernel.specs.declared.note.Note.{Note}
+use Rattle.spf_kernel.specs.declared.note.Says.{Says}
+use Rattle.spf_kernel.specs.declared.note.Says.TheVariants.{Declared, Variable, Used, Number, Expression, Monomial, Factor, Guard, Condition}
+use Rattle.spf_kernel.specs.declared.note.Sort.{Sort}
+use Rattle.spf_kernel.specs.declared.note.Spot.{Spot}
+use Rattle.spf_kernel.specs.declared.note.Spot.TheVariants as spot_is
+use Rattle.spf_kernel.specs.declared.note.Scope.{Scope}
+use Rattle.spf_kernel.specs.declared.raw.RawIx.{RawIx, RawIx', Row_of-RawStep, end_of-RawStep, more_of-RawStep}
+use Rattle.spf_kernel.specs.declared.raw.RawMono.{RawMono, Number', RawMono-Number-1-None', RawMono-Number-1-Some'}
+use Rattle.spf_kernel.specs.declared.raw.RawMono as raw_mono
+use Rattle.spf_kernel.specs.declared.raw.RawAtom.{RawAtom, RawAtom', RawAtom-at-None', RawAtom-at-Some', Row_of-RawIx, end_of-RawIx, more_of-RawIx}
+use Rattle.spf_kernel.specs.Scopes.{nothing}
+use Rattle.spf_kernel.specs.Notes.{note, ix_notes, steps_notes, mono_notes, atom_notes, nested_notes}
+use Rattle.spf_kernel.specs.Rules.{text_of, is_expression, is_monomial, count_that}
+use Rattle.spf_kernel.proofs.Counting.{more, first_more}
+use Rattle.spf_kernel.proofs.Told.{tells, told, IsWithin, IsSmall, one_further, counted_on, IsEarly, AreEarly, AreFewer, Alike}
+
+-- ---- parts one behind another
+
+counted_append : (n : ℕ) (xs ys : List Note) → counted_on n (xs ++ ys) ≡ counted_on (counted_on n xs) ys
+counted_append n [] ys = refl
+counted_append n (x ∷ xs) ys = counted_append (one_further n x.says) xs ys
+
+pub early_split : (n : ℕ) (xs ys : List Note) → AreEarly n (xs ++ ys) → AreEarly n xs × AreEarly (counted_on n xs) ys
+early_split n [] ys early = (tt, early)
+early_split n (x ∷ xs) ys early = let parts = early_split (one_further n x.says) xs ys early.1 in ((early.0, parts.0), parts.1)
+
+early_join : (n : ℕ) (xs ys : List Note) → AreEarly n xs → AreEarly (counted_on n xs) ys → AreEarly n (xs ++ ys)
+early_join n [] ys front back = back
+early_join n (x ∷ xs) ys front back = (front.0, early_join (one_further n x.says) xs ys front.1 back)
+
+fewer_append : (xs ys others more : List Note) → AreFewer xs others → AreFewer ys more → AreFewer (xs ++ ys) (others ++ more)
+fewer_append xs ys others more first second n m below early =
+    let parts = early_split n others more early in
+    let front = first n m below parts.0 in
+    let back = second (counted_on n others) (counted_on m xs) front.1 parts.1 in
+    (early_join m xs ys front.0 back.0, rw (counted_append m xs ys, counted_append n others more) back.1)
+
+pub told_append : (texts : List (List ℕ)) (xs ys : List Note) → told texts (xs ++ ys) ≡ told texts xs ++ told texts ys
+told_append texts xs ys = flat_map-append (λ (note : Note). tells texts note.token note.says) xs ys
+
+-- ---- a note that is no number and no monomial
+
+abbrev pub is_plain : Says → Bool
+is_plain (Number times) = false
+is_plain (Monomial spot) = false
+is_plain says = true
+
+plain_within : (token : Token) (says : Says) → is_plain says ≡ true → IsWithin token says
+plain_within token (Number times) plain = absurd (true≢false (sym plain))
+plain_within token says plain = tt
+
+plain_early : (n : ℕ) (says : Says) → is_plain says ≡ true → IsEarly n says
+plain_early n (Monomial spot) plain = absurd (true≢false (sym plain))
+plain_early n says plain = tt
+
+plain_further : (n : ℕ) (says : Says) → is_plain says ≡ true → one_further n says ≡ cond (is_expression says) 0 n
+plain_further n (Monomial spot) plain = absurd (true≢false (sym plain))
+plain_further n says plain = refl
+
+both_begin : (b : Bool) (n m : ℕ) → m ≤ n → cond b 0 m ≤ cond b 0 n
+both_begin true n m below = omega arith
+both_begin false n m below = below
+
+-- says the same of whichever token
+abbrev pub is_mark : Says → Bool
+is_mark Expression = true
+is_mark Factor = true
+is_mark Guard = true
+is_mark Condition = true
+is_mark says = false
+
+module _ (texts written : List (List ℕ)) where
+  pub alike_none : Alike texts written [] []
+  alike_none = record { same = refl; small = tt; fewer = λ n m below early. (tt, below) }
+
+  pub alike_append : (xs ys others more : List Note) → Alike texts written others xs → Alike texts written more ys → Alike texts written (others ++ more) (xs ++ ys)
+  alike_append xs ys others more first second = record {
+    same = told_append written xs ys ∙ ((λ i. first.same i ++ second.same i) ∙ sym (told_append texts others more));
+    small = join_each IsSmall xs ys first.small second.small;
+    fewer = fewer_append xs ys others more first.fewer second.fewer;
+  }
+
+  -- a note more in front, which tells the same and is no number and no monomial
+  pub alike_more : (t u : Token) (s r : Says) (xs others : List Note) → tells written u r ≡ tells texts t s → is_plain s ≡ true → is_plain r ≡ true
+      → is_expression r ≡ is_expression s → Alike texts written others xs → Alike texts written (note t s ∷ others) (note u r ∷ xs)
+  alike_more t u s r xs others e plain_s plain_r begins rest = record {
+    same = λ i. e i ++ rest.same i;
+    small = (plain_within u r plain_r, rest.small);
+    fewer = λ n m below early.
+        let less : one_further m r ≤ one_further n s = rw (plain_further m r plain_r, plain_further n s plain_s, begins) (both_begin (is_expression s) n m below) in
+        let back = rest.fewer (one_further n s) (one_further m r) less early.1 in
+        ((plain_early m r plain_r, back.0), back.1);
+  }
+
+  -- a note that says the same on both sides, of whichever tokens
+  pub alike_said : (t u : Token) (says : Says) (xs others : List Note) → is_mark says ≡ true → Alike texts written others xs → Alike texts written (note t says ∷ others) (note u says ∷ xs)
+  alike_said t u Expression xs others mark rest = alike_more t u Expression Expression xs others refl refl refl refl rest
+  alike_said t u Factor xs others mark rest = alike_more t u Factor Factor xs others refl refl refl refl rest
+  alike_said t u Guard xs others mark rest = alike_more t u Guard Guard xs others refl refl refl refl rest
+  alike_said t u Condition xs others mark rest = alike_more t u Condition Condition xs others refl refl refl refl rest
+  alike_said t u says xs others mark rest = absurd (true≢false (sym mark))
+
+  pub alike_declared : (t u : Token) (sort : Sort) (xs others : List Note) → text_of written u ≡ text_of texts t → Alike texts written others xs
+      → Alike texts written (note t (Declared sort) ∷ others) (note u (Declared sort) ∷ xs)
+  alike_declared t u sort xs others name rest =
+      alike_more t u (Declared sort) (Declared sort) xs others (λ i. record { says = Declared sort; name = name i; outer = None; inner = None } ∷ []) refl refl refl rest
+
+  pub alike_variable : (t u : Token) (outer again : Option Token) (xs others : List Note) → text_of written u ≡ text_of texts t
+      → option_map (text_of written) again ≡ option_map (text_of texts) outer → Alike texts written others xs
+      → Alike texts written (note t (Variable outer) ∷ others) (note u (Variable again) ∷ xs)
+  alike_variable t u outer again xs others name same rest =
+      alike_more t u (Variable outer) (Variable again) xs others (λ i. record { says = Variable None; name = name i; outer = same i; inner = None } ∷ []) refl refl refl rest
+
+  pub alike_used : (t u : Token) (brackets : Bool) (spot : Spot) (scope again : Scope) (xs others : List Note) → text_of written u ≡ text_of texts t
+      → option_map (text_of written) again.outer ≡ option_map (text_of texts) scope.outer → option_map (text_of written) again.inner ≡ option_map (text_of texts) scope.inner
+      → Alike texts written others xs → Alike texts written (note t (Used brackets spot scope) ∷ others) (note u (Used brackets spot again) ∷ xs)
+  alike_used t u brackets spot scope again xs others name outer inner rest =
+      alike_more t u (Used brackets spot scope) (Used brackets spot again) xs others
+      (λ i. record { says = Used brackets spot nothing; name = name i; outer = outer i; inner = inner i } ∷ []) refl refl refl rest
+
+-- ---- the notes of one index expression
+
+abbrev pub IsInnerSaying : Spot → Says → Type 0
+IsInnerSaying spot (Monomial here) = here ≡ spot
+IsInnerSaying spot (Number times) = ⊤
+IsInnerSaying spot (Used brackets here scope) = ⊤
+IsInnerSaying spot says = ⊥
+
+-- a monomial of an expression at this spot, a number or a used name
+abbrev pub IsInner : Spot → Note → Type 0
+IsInner spot note = IsInnerSaying spot note.says
+
+module _ (spot : Spot) (scope : Scope) where
+  mutual
+    pub inner_notes : (x : RawIx) → AllByRecursion (IsInner spot) (ix_notes spot scope x)
+    inner_notes (RawIx' lead first shape others) = join_each (IsInner spot) (mono_notes spot scope first) (steps_notes spot scope others) (inner_mono first) (inner_steps others)
+
+    pub inner_steps : {n : _} (row : Row_of-RawStep n) → AllByRecursion (IsInner spot) (steps_notes spot scope row)
+    inner_steps end_of-RawStep = tt
+    inner_steps (more_of-RawStep minus mono others) = join_each (IsInner spot) (mono_notes spot scope mono) (steps_notes spot scope others) (inner_mono mono) (inner_steps others)
+
+    pub inner_mono : (x : RawMono) → AllByRecursion (IsInner spot) (mono_notes spot scope x)
+    inner_mono (Number' number RawMono-Number-1-None') = (refl, (tt, tt))
+    inner_mono (Number' number (RawMono-Number-1-Some' atom)) = (refl, (tt, inner_atom atom))
+    inner_mono (raw_mono.Atom atom) = (refl, inner_atom atom)
+
+    pub inner_atom : (x : RawAtom) → AllByRecursion (IsInner spot) (atom_notes spot scope x)
+    inner_atom (RawAtom' name RawAtom-at-None') = (tt, tt)
+    inner_atom (RawAtom' name (RawAtom-at-Some' shape at)) = (tt, inner_nested at)
+
+    pub inner_nested : {n : _} (row : Row_of-RawIx n) → AllByRecursion (IsInner spot) (nested_notes spot scope row)
+    inner_nested end_of-RawIx = tt
+    inner_nested (more_of-RawIx ix others) = join_each (IsInner spot) (ix_notes spot scope ix) (nested_notes spot scope others) (inner_notes ix) (inner_nested others)
+
+-- so many monomials may stand in an expression at this spot
+abbrev limit : Spot → ℕ
+limit spot_is.Bound = 8
+limit spot = 64
+
+below_limit : (n : ℕ) (spot : Spot) → IsEarly n (Monomial spot) → n < limit spot
+below_limit n spot_is.Bound early = early
+below_limit n spot early = early
+
+is_early : (n : ℕ) (spot : Spot) → n < limit spot → IsEarly n (Monomial spot)
+is_early n spot_is.Bound below = below
+is_early n spot below = below
+
+counted_first : (b : Bool) (n c total : ℕ) → total ≡ more b c → more b n + c ≡ n + total
+counted_first true n c total e = omega (arith, e)
+counted_first false n c total e = omega (arith, e)
+
+few_first : (b : Bool) (n c total most : ℕ) → total ≡ more b c → (b ≡ true → n < most) → (1 ≤ c → more b n + c ≤ most) → 1 ≤ total → n + total ≤ most
+few_first true n zero total most e first others some = omega (arith, e, first refl)
+few_first true n (suc c) total most e first others some = omega (arith, e, others (omega arith))
+few_first false n c total most e first others some = omega (arith, e, others (omega (arith, e)))
+
+few_others : (b : Bool) (n c total most : ℕ) → total ≡ more b c → (1 ≤ total → n + total ≤ most) → 1 ≤ c → more b n + c ≤ most
+few_others true n c total most e few some = omega (arith, e, few (omega (arith, e)))
+few_others false n c total most e few some = omega (arith, e, few (omega (arith, e)))
+
+first_below : (b : Bool) (n c total most : ℕ) → total ≡ more b c → (1 ≤ total → n + total ≤ most) → b ≡ true → n < most
+first_below true n c total most e few holds = omega (arith, e, few (omega (arith, e)))
+first_below false n c total most e few holds = absurd (true≢false (sym holds))
+
+module _ (spot : Spot) where
+  inner_further : (n : ℕ) (says : Says) → IsInnerSaying spot says → one_further n says ≡ more (is_monomial says) n
+  inner_further n (Monomial here) inner = refl
+  inner_further n (Number times) inner = refl
+  inner_further n (Used brackets here scope) inner = refl
+  inner_further n says inner = absurd inner
+
+  early_below : (n : ℕ) (says : Says) → IsInnerSaying spot says → IsEarly n says → is_monomial says ≡ true → n < limit spot
+  early_below n (Monomial here) inner early holds = subst (λ s. n < limit s) inner (below_limit n here early)
+  early_below n says inner early holds = absurd (true≢false (sym holds))
+
+  below_early : (n : ℕ) (says : Says) → IsInnerSaying spot says → (is_monomial says ≡ true → n < limit spot) → IsEarly n says
+  below_early n (Monomial here) inner below = is_early n here (subst (λ s. n < limit s) (sym inner) (below refl))
+  below_early n says inner below = tt
+
+  inner_counted : (n : ℕ) (notes : List Note) → AllByRecursion (IsInner spot) notes → counted_on n notes ≡ n + count_that is_monomial notes
+  inner_counted n [] inner = omega arith
+  inner_counted n (x ∷ xs) inner =
+      inner_counted (one_further n x.says) xs inner.1
+      ∙ (ap (λ m. m + count_that is_monomial xs) (inner_further n x.says inner.0)
+      ∙ counted_first (is_monomial x.says) n (count_that is_monomial xs) (count_that is_monomial (x ∷ xs)) (first_more is_monomial x xs))
+
+  -- the last monomial stands below the limit
+  few_inner : (n : ℕ) (notes : List Note) → AllByRecursion (IsInner spot) notes → AreEarly n notes → 1 ≤ count_that is_monomial notes → n + count_that is_monomial notes ≤ limit spot
+  few_inner n [] inner early some = absurd (omega (arith, some))
+  few_inner n (x ∷ xs) inner early some =
+      few_first (is_monomial x.says) n (count_that is_monomial xs) (count_that is_monomial (x ∷ xs)) (limit spot) (first_more is_monomial x xs)
+      (early_below n x.says inner.0 early.0)
+      (subst (λ m. 1 ≤ count_that is_monomial xs → m + count_that is_monomial xs ≤ limit spot) (inner_further n x.says inner.0) (few_inner (one_further n x.says) xs inner.1 early.1)) some
+
+  early_inner : (n : ℕ) (notes : List Note) → AllByRecursion (IsInner spot) notes → (1 ≤ count_that is_monomial notes → n + count_that is_monomial notes ≤ limit spot) → AreEarly n notes
+  early_inner n [] inner few = tt
+  early_inner n (x ∷ xs) inner few =
+      let b = is_monomial x.says in
+      let c = count_that is_monomial xs in
+      let total = count_that is_monomial (x ∷ xs) in
+      let e = first_more is_monomial x xs in (
+        below_early n x.says inner.0 (first_below b n c total (limit spot) e few),
+        early_inner (one_further n x.says) xs inner.1
+            (subst (λ m. 1 ≤ c → m + c ≤ limit spot) (sym (inner_further n x.says inner.0)) (few_others b n c total (limit spot) e few)),
+      )
+
+-- parts of one index expression, with no more monomials
+pub alike_inner : (texts written : List (List ℕ)) (spot : Spot) (xs others : List Note) → AllByRecursion (IsInner spot) xs → AllByRecursion (IsInner spot) others
+    → told written xs ≡ told texts others → AllByRecursion IsSmall xs → count_that is_monomial xs ≤ count_that is_monomial others → Alike texts written others xs
+alike_inner texts written spot xs others inner_xs inner_others same small less = record {
+  same = same;
+  small = small;
+  fewer = λ n m below early.
+      let few = few_inner spot n others inner_others early in
+      (early_inner spot m xs inner_xs (λ some. omega (arith, few (omega arith))), rw (inner_counted spot m xs inner_xs, inner_counted spot n others inner_others) (omega arith));
+}

@@ -1,0 +1,100 @@
+-- A constant of an index expression is printed as few numbers whose sum it is.
+use Rattle.std.proofs.Common.{◌≡◌, ℕ, ℤ, pos, negsuc, ◌+ℤ◌, ◌+◌, ◌*◌, ◌/◌, ◌%◌, ◌<◌, ◌≤◌, ◌^◌, suc, zero, Bool, true, false, List, [], ◌∷◌, ◌++◌, length, replicate, unsigned_abs, refl, sym, ◌∙◌, arith, w64, true≢false, length-append}
+use Rattle.std.specs.Prelude.{◌==◌, if◌then◌else◌}
+use Rattle.std.specs.Int.{is_negative}
+use Rattle.std.specs.List.{AllByRecursion}
+use Rattle.std.proofs.lemmas.Int.{ints, int_wrap_fits, fits_signed_from_abs}
+use Rattle.std.proofs.lemmas.Bool.Decides.{nat_tests}
+use Rattle.std.proofs.lemmas.List.{length-replicate}
+use Rattle.std.proofs.lemmas.Nat.{div-add-mod'}
+use Rattle.spf_base.specs.Wrap.{wrap}
+use Rattle.spf_base.proofs.Wraps.{IsWrap-wrap, wrap_only}
+use Rattle.spf_lex.proofs.Leaves.{join_each}
+use Rattle.spf_kernel.specs.Printed.{limit, pieces}
+use Rattle.spf_kernel.specs.Resolved.{signed}
+
+-- ---- numbers of 64 bits
+
+pub wrap_small : (z : ℤ) → unsigned_abs z < 2 ^ 63 → wrap z ≡ z
+unfolding wrap
+wrap_small z small = int_wrap_fits w64 z (fits_signed_from_abs w64 z small)
+
+-- to wrap makes no number larger
+pub wrap_no_larger : (z : ℤ) → unsigned_abs (wrap z) ≤ unsigned_abs z
+wrap_no_larger z = let w = IsWrap-wrap z in omega (arith, ints, w.low, w.high, w.congruent.2)
+
+pub wrap_twice : (z : ℤ) → wrap (wrap z) ≡ wrap z
+wrap_twice z = let w = IsWrap-wrap z in sym (wrap_only (wrap z) (wrap z) (record { low = w.low; high = w.high; congruent = (0, 0, refl) }))
+
+-- ---- a number and its sign
+
+pub signed_back : (c : ℤ) → signed (is_negative c) (unsigned_abs c) ≡ c
+signed_back (pos n) = by (is_negative (pos n)) (grind (arith, nat_tests)) where
+  by : (minus : Bool) → minus ≡ false → signed minus n ≡ pos n
+  by true e = absurd (true≢false e)
+  by false e = refl
+signed_back (negsuc n) = refl
+
+pub signed_size : (minus : Bool) (n : ℕ) → unsigned_abs (signed minus n) ≡ n
+signed_size true n = omega (arith, ints)
+signed_size false n = omega (arith, ints)
+
+pub signed_sum : (minus : Bool) (a b : ℕ) → signed minus (a + b) ≡ signed minus a +ℤ signed minus b
+signed_sum true a b = omega (arith, ints)
+signed_sum false a b = omega (arith, ints)
+
+-- ---- pieces
+
+-- the sum of numbers
+abbrev pub summed : List ℕ → ℕ
+summed [] = 0
+summed (n ∷ ns) = n + summed ns
+
+-- the number is within the limit
+abbrev pub IsPiece : ℕ → Type 0
+IsPiece n = n ≤ limit
+
+sum_append : (xs ys : List ℕ) → summed (xs ++ ys) ≡ summed xs + summed ys
+sum_append [] ys = omega arith
+sum_append (x ∷ xs) ys = omega (arith, sum_append xs ys)
+
+limits_summed : (k : ℕ) → summed (replicate k limit) ≡ k * limit
+limits_summed zero = refl
+limits_summed (suc k) = omega (arith, limits_summed k)
+
+limits_small : (k : ℕ) → AllByRecursion IsPiece (replicate k limit)
+limits_small zero = tt
+limits_small (suc k) = (omega arith, limits_small k)
+
+-- what is left behind the largest pieces
+abbrev left_over : Bool → ℕ → List ℕ
+left_over none n = if none then [] else n ∷ []
+
+left_sum : (none : Bool) (n : ℕ) → (n == 0) ≡ none → summed (left_over none n) ≡ n
+left_sum true n e = grind (arith, nat_tests)
+left_sum false n e = omega arith
+
+left_small : (none : Bool) (n : ℕ) → n ≤ limit → AllByRecursion IsPiece (left_over none n)
+left_small true n small = tt
+left_small false n small = (small, tt)
+
+left_few : (none : Bool) (n d k : ℕ) → (n == 0) ≡ none → d * limit + n ≤ k * limit → d + length (left_over none n) ≤ k
+left_few true n d k e fits = omega arith
+left_few false n d k e fits =
+    let some : 0 < n = grind (arith, nat_tests) in
+    omega arith
+
+pub pieces_sum : (n : ℕ) → summed (pieces n) ≡ n
+pieces_sum n =
+    sum_append (replicate (n / limit) limit) (left_over (n % limit == 0) (n % limit))
+    ∙ omega (arith, limits_summed (n / limit), left_sum (n % limit == 0) (n % limit) refl, div-add-mod' n limit)
+
+pub pieces_small : (n : ℕ) → AllByRecursion IsPiece (pieces n)
+pieces_small n =
+    join_each IsPiece (replicate (n / limit) limit) (left_over (n % limit == 0) (n % limit)) (limits_small (n / limit)) (left_small (n % limit == 0) (n % limit) (omega arith))
+
+-- a number that is the sum of k numbers within the limit falls into at most k pieces
+pub pieces_few : (n k : ℕ) → n ≤ k * limit → length (pieces n) ≤ k
+pieces_few n k fits =
+    let few = left_few (n % limit == 0) (n % limit) (n / limit) k refl (omega (arith, div-add-mod' n limit)) in
+    omega (arith, length-append (replicate (n / limit) limit) (left_over (n % limit == 0) (n % limit)), length-replicate (n / limit) limit, few)
