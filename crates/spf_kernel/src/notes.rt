@@ -1,7 +1,7 @@
 //! The notes of a raw tree.
 
 ghost use Rattle.std.specs.Prelude.{◌≡◌, [], ◌∷◌, ◌++◌, map, flat_map, OnOk, IfOk};
-ghost use Rattle.spf_kernel.specs.Notes.{mono_head, ix_notes, mono_notes, atom_notes, expression_notes, read_notes, fact_notes, prod_notes, value_notes};
+ghost use Rattle.spf_kernel.specs.Notes.{note, mono_head, ix_notes, mono_notes, atom_notes, expression_notes, read_notes, fact_notes, prod_notes, value_notes};
 ghost use Rattle.spf_kernel.specs.Notes.{ix_head, assign_notes, cond_notes, guard_notes, part_notes, item_notes, loop_notes, cells_notes, param_note, head_notes, decl_notes, kernel_notes};
 
 use crate::note::{Note, Says, Scope, Sort, Spot};
@@ -24,6 +24,14 @@ pub fn mono_head(mono: &RawMono) -> Token
     }
 }
 
+/// Writes a note behind the others.
+fn push(notes: &mut Items<Note>, token: Token, says: Says) -> Result<(), NoMemory>
+    ensures { OnOk result (notes.new ≡ notes.old ++ note token says ∷ []) }
+{
+    notes.push(Note { token, says })?;
+    Ok(())
+}
+
 #[cycle(ix)]
 fn note_atom(
     notes: &mut Items<Note>,
@@ -38,10 +46,7 @@ fn note_atom(
         spot,
         scope,
     };
-    notes.push(Note {
-        token: atom.name,
-        says,
-    })?;
+    push(notes, atom.name, says)?;
     match &atom.at {
         Some(at) => note_ix(notes, spot, scope, at.get()),
         None => Ok(()),
@@ -57,23 +62,11 @@ fn note_mono(
 ) -> Result<(), NoMemory>
     ensures { OnOk result (notes.new ≡ notes.old ++ mono_notes spot scope mono.now) }
 {
-    notes.push(Note {
-        token: mono_head(mono),
-        says: Says::Monomial(spot),
-    })?;
+    push(notes, mono_head(mono), Says::Monomial(spot))?;
     match mono {
-        RawMono::Number(number, None) => {
-            notes.push(Note {
-                token: *number,
-                says: Says::Number { times: false },
-            })?;
-            Ok(())
-        }
+        RawMono::Number(number, None) => push(notes, *number, Says::Number { times: false }),
         RawMono::Number(number, Some(atom)) => {
-            notes.push(Note {
-                token: *number,
-                says: Says::Number { times: true },
-            })?;
+            push(notes, *number, Says::Number { times: true })?;
             note_atom(notes, spot, scope, atom)
         }
         RawMono::Atom(atom) => note_atom(notes, spot, scope, atom),
@@ -100,10 +93,7 @@ pub fn note_expression(
 ) -> Result<(), NoMemory>
     ensures { OnOk result (notes.new ≡ notes.old ++ expression_notes spot scope ix.now) }
 {
-    notes.push(Note {
-        token: mono_head(&ix.first),
-        says: Says::Expression,
-    })?;
+    push(notes, mono_head(&ix.first), Says::Expression)?;
     note_ix(notes, spot, scope, ix)
 }
 
@@ -116,14 +106,8 @@ fn note_read(notes: &mut Items<Note>, scope: Scope, atom: &RawAtom) -> Result<()
         spot: Spot::Factor,
         scope,
     };
-    notes.push(Note {
-        token: atom.name,
-        says: Says::Factor,
-    })?;
-    notes.push(Note {
-        token: atom.name,
-        says,
-    })?;
+    push(notes, atom.name, Says::Factor)?;
+    push(notes, atom.name, says)?;
     match &atom.at {
         Some(at) => note_expression(notes, Spot::Body, scope, at.get()),
         None => Ok(()),
@@ -135,13 +119,7 @@ fn note_fact(notes: &mut Items<Note>, scope: Scope, fact: &RawFactor) -> Result<
     ensures { OnOk result (notes.new ≡ notes.old ++ fact_notes scope fact.now) }
 {
     match fact {
-        RawFactor::Number(number) => {
-            notes.push(Note {
-                token: *number,
-                says: Says::Factor,
-            })?;
-            Ok(())
-        }
+        RawFactor::Number(number) => push(notes, *number, Says::Factor),
         RawFactor::Paren(value) => note_value(notes, scope, value.get()),
         RawFactor::Name(atom) => note_read(notes, scope, atom),
     }
@@ -180,10 +158,7 @@ fn note_assign(notes: &mut Items<Note>, scope: Scope, assign: &RawAssign) -> Res
         spot: Spot::Target,
         scope,
     };
-    notes.push(Note {
-        token: assign.array,
-        says,
-    })?;
+    push(notes, assign.array, says)?;
     note_expression(notes, Spot::Body, scope, &assign.at)?;
     note_value(notes, scope, &assign.value)
 }
@@ -201,10 +176,7 @@ fn ix_head(ix: &RawIx) -> Token
 fn note_cond(notes: &mut Items<Note>, scope: Scope, cond: &RawCond) -> Result<(), NoMemory>
     ensures { OnOk result (notes.new ≡ notes.old ++ cond_notes scope cond.now) }
 {
-    notes.push(Note {
-        token: ix_head(&cond.left),
-        says: Says::Condition,
-    })?;
+    push(notes, ix_head(&cond.left), Says::Condition)?;
     note_expression(notes, Spot::Body, scope, &cond.left)?;
     note_expression(notes, Spot::Body, scope, &cond.right)
 }
@@ -225,10 +197,7 @@ fn note_assigns(
 fn note_guard(notes: &mut Items<Note>, scope: Scope, guard: &RawGuard) -> Result<(), NoMemory>
     ensures { OnOk result (notes.new ≡ notes.old ++ guard_notes scope guard.now) }
 {
-    notes.push(Note {
-        token: ix_head(&guard.first.left),
-        says: Says::Guard,
-    })?;
+    push(notes, ix_head(&guard.first.left), Says::Guard)?;
     note_cond(notes, scope, &guard.first)?;
     for cond in guard.others.as_slice() {
         note_cond(notes, scope, cond)?;
@@ -254,10 +223,7 @@ fn note_item(notes: &mut Items<Note>, outer: Token, item: &RawItem) -> Result<()
     match item {
         RawItem::Part(part) => note_part(notes, Scope::within(outer), part),
         RawItem::Inner(range, parts) => {
-            notes.push(Note {
-                token: range.var,
-                says: Says::Variable(Some(outer)),
-            })?;
+            push(notes, range.var, Says::Variable(Some(outer)))?;
             note_expression(notes, Spot::Body, Scope::within(outer), &range.low)?;
             note_expression(notes, Spot::Body, Scope::within(outer), &range.high)?;
             for part in parts.as_slice() {
@@ -272,14 +238,8 @@ fn note_item(notes: &mut Items<Note>, outer: Token, item: &RawItem) -> Result<()
 fn note_loop(notes: &mut Items<Note>, each: &RawLoop) -> Result<(), NoMemory>
     ensures { OnOk result (notes.new ≡ notes.old ++ loop_notes each.now) }
 {
-    notes.push(Note {
-        token: each.name,
-        says: Says::Declared(Sort::Loop),
-    })?;
-    notes.push(Note {
-        token: each.range.var,
-        says: Says::Variable(None),
-    })?;
+    push(notes, each.name, Says::Declared(Sort::Loop))?;
+    push(notes, each.range.var, Says::Variable(None))?;
     note_expression(notes, Spot::Bound, Scope::nothing(), &each.range.low)?;
     note_expression(notes, Spot::Bound, Scope::nothing(), &each.range.high)?;
     for item in each.items.as_slice() {
@@ -293,11 +253,7 @@ fn note_loop(notes: &mut Items<Note>, each: &RawLoop) -> Result<(), NoMemory>
 fn note_param(notes: &mut Items<Note>, name: Token) -> Result<(), NoMemory>
     ensures { OnOk result (notes.new ≡ notes.old ++ param_note name ∷ []) }
 {
-    notes.push(Note {
-        token: name,
-        says: Says::Declared(Sort::Param),
-    })?;
-    Ok(())
+    push(notes, name, Says::Declared(Sort::Param))
 }
 
 fn note_head(notes: &mut Items<Note>, ix: &RawIx) -> Result<(), NoMemory>
@@ -309,10 +265,7 @@ fn note_head(notes: &mut Items<Note>, ix: &RawIx) -> Result<(), NoMemory>
 fn note_cells(notes: &mut Items<Note>, array: &RawSized) -> Result<(), NoMemory>
     ensures { OnOk result (notes.new ≡ notes.old ++ cells_notes array.now) }
 {
-    notes.push(Note {
-        token: array.name,
-        says: Says::Declared(Sort::Data),
-    })?;
+    push(notes, array.name, Says::Declared(Sort::Data))?;
     note_head(notes, &array.size)
 }
 
@@ -348,10 +301,7 @@ fn note_decl(notes: &mut Items<Note>, decl: &RawDecl) -> Result<(), NoMemory>
             high,
             ..
         } => {
-            notes.push(Note {
-                token: array.name,
-                says: Says::Declared(Sort::Index),
-            })?;
+            push(notes, array.name, Says::Declared(Sort::Index))?;
             note_head(notes, &array.size)?;
             note_head(notes, low)?;
             note_head(notes, high)
