@@ -77,21 +77,21 @@ is_mark Guard = true
 is_mark Condition = true
 is_mark says = false
 
-module _ (texts written : List (List ℕ)) where
+module _ {texts written : List (List ℕ)} where
   pub alike_none : Alike texts written [] []
   alike_none = record { same = refl; small = tt; fewer = λ n m below early. (tt, below) }
 
-  pub alike_append : (xs ys others more : List Note) → Alike texts written others xs → Alike texts written more ys → Alike texts written (others ++ more) (xs ++ ys)
-  alike_append xs ys others more first second = record {
+  pub alike_append : {xs ys others more : List Note} → Alike texts written others xs → Alike texts written more ys → Alike texts written (others ++ more) (xs ++ ys)
+  alike_append {xs} {ys} {others} {more} first second = record {
     same = told_append written xs ys ∙ ((λ i. first.same i ++ second.same i) ∙ sym (told_append texts others more));
     small = join_each IsSmall xs ys first.small second.small;
     fewer = fewer_append xs ys others more first.fewer second.fewer;
   }
 
   -- a note more in front, which tells the same and is no number and no monomial
-  pub alike_more : (t u : Token) (s r : Says) (xs others : List Note) → tells written u r ≡ tells texts t s → is_plain s ≡ true → is_plain r ≡ true
+  pub alike_more : (t u : Token) (s r : Says) {xs others : List Note} → tells written u r ≡ tells texts t s → is_plain s ≡ true → is_plain r ≡ true
       → is_expression r ≡ is_expression s → Alike texts written others xs → Alike texts written (note t s ∷ others) (note u r ∷ xs)
-  alike_more t u s r xs others e plain_s plain_r begins rest = record {
+  alike_more t u s r e plain_s plain_r begins rest = record {
     same = λ i. e i ++ rest.same i;
     small = (plain_within u r plain_r, rest.small);
     fewer = λ n m below early.
@@ -101,29 +101,29 @@ module _ (texts written : List (List ℕ)) where
   }
 
   -- a note that says the same on both sides, of whichever tokens
-  pub alike_said : (t u : Token) (says : Says) (xs others : List Note) → is_mark says ≡ true → Alike texts written others xs → Alike texts written (note t says ∷ others) (note u says ∷ xs)
-  alike_said t u Expression xs others mark rest = alike_more t u Expression Expression xs others refl refl refl refl rest
-  alike_said t u Factor xs others mark rest = alike_more t u Factor Factor xs others refl refl refl refl rest
-  alike_said t u Guard xs others mark rest = alike_more t u Guard Guard xs others refl refl refl refl rest
-  alike_said t u Condition xs others mark rest = alike_more t u Condition Condition xs others refl refl refl refl rest
-  alike_said t u says xs others mark rest = absurd (true≢false (sym mark))
+  pub alike_said : (t u : Token) (says : Says) {xs others : List Note} → is_mark says ≡ true → Alike texts written others xs → Alike texts written (note t says ∷ others) (note u says ∷ xs)
+  alike_said t u Expression mark rest = alike_more t u Expression Expression refl refl refl refl rest
+  alike_said t u Factor mark rest = alike_more t u Factor Factor refl refl refl refl rest
+  alike_said t u Guard mark rest = alike_more t u Guard Guard refl refl refl refl rest
+  alike_said t u Condition mark rest = alike_more t u Condition Condition refl refl refl refl rest
+  alike_said t u says mark rest = absurd (true≢false (sym mark))
 
-  pub alike_declared : (t u : Token) (sort : Sort) (xs others : List Note) → text_of written u ≡ text_of texts t → Alike texts written others xs
+  pub alike_declared : (t u : Token) (sort : Sort) {xs others : List Note} → text_of written u ≡ text_of texts t → Alike texts written others xs
       → Alike texts written (note t (Declared sort) ∷ others) (note u (Declared sort) ∷ xs)
-  alike_declared t u sort xs others name rest =
-      alike_more t u (Declared sort) (Declared sort) xs others (λ i. record { says = Declared sort; name = name i; outer = None; inner = None } ∷ []) refl refl refl rest
+  alike_declared t u sort name rest =
+      alike_more t u (Declared sort) (Declared sort) (λ i. record { says = Declared sort; name = name i; outer = None; inner = None } ∷ []) refl refl refl rest
 
-  pub alike_variable : (t u : Token) (outer again : Option Token) (xs others : List Note) → text_of written u ≡ text_of texts t
+  pub alike_variable : (t u : Token) (outer again : Option Token) {xs others : List Note} → text_of written u ≡ text_of texts t
       → option_map (text_of written) again ≡ option_map (text_of texts) outer → Alike texts written others xs
       → Alike texts written (note t (Variable outer) ∷ others) (note u (Variable again) ∷ xs)
-  alike_variable t u outer again xs others name same rest =
-      alike_more t u (Variable outer) (Variable again) xs others (λ i. record { says = Variable None; name = name i; outer = same i; inner = None } ∷ []) refl refl refl rest
+  alike_variable t u outer again name same rest =
+      alike_more t u (Variable outer) (Variable again) (λ i. record { says = Variable None; name = name i; outer = same i; inner = None } ∷ []) refl refl refl rest
 
-  pub alike_used : (t u : Token) (brackets : Bool) (spot : Spot) (scope again : Scope) (xs others : List Note) → text_of written u ≡ text_of texts t
+  pub alike_used : (t u : Token) (brackets : Bool) (spot : Spot) (scope again : Scope) {xs others : List Note} → text_of written u ≡ text_of texts t
       → option_map (text_of written) again.outer ≡ option_map (text_of texts) scope.outer → option_map (text_of written) again.inner ≡ option_map (text_of texts) scope.inner
       → Alike texts written others xs → Alike texts written (note t (Used brackets spot scope) ∷ others) (note u (Used brackets spot again) ∷ xs)
-  alike_used t u brackets spot scope again xs others name outer inner rest =
-      alike_more t u (Used brackets spot scope) (Used brackets spot again) xs others
+  alike_used t u brackets spot scope again name outer inner rest =
+      alike_more t u (Used brackets spot scope) (Used brackets spot again)
       (λ i. record { says = Used brackets spot nothing; name = name i; outer = outer i; inner = inner i } ∷ []) refl refl refl rest
 
 -- ---- the notes of one index expression

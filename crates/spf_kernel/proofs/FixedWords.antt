@@ -1,27 +1,20 @@
--- The words that are printed the same each time are tokens of the kinds that the grammar quotes, and the text of a number is a number.
-use Rattle.std.proofs.Common.{◌≡◌, ℕ, ◌≤◌, ◌^◌, Bool, true, false, ◌&&◌, nat_le, nat_lt, ◌<◌, ◌==◌, List, [], ◌∷◌, length, get_or, Contains, Option, Some, refl, ap, inl, inr, arith, decimal}
-use Rattle.std.specs.Prelude.{codes, if◌then◌else◌}
+-- The words that are printed the same each time are tokens of the kinds that the grammar quotes, and the text of a name is a name.
+use Rattle.std.proofs.Common.{◌≡◌, ℕ, ◌≤◌, Bool, true, false, ◌&&◌, nat_le, nat_lt, ◌<◌, List, [], ◌∷◌, length, get_or, Contains, refl, inl, inr, arith}
+use Rattle.std.specs.Prelude.{codes}
 use Rattle.std.specs.List.{list_all}
 use Rattle.std.proofs.lemmas.Bool.{and_parts}
 use Rattle.std.proofs.lemmas.Bool.Decides.{nat_tests}
 use Rattle.std.proofs.lemmas.List.Sums.{AllPass-from_list_all}
 use Rattle.spf_base.specs.Word.{IsLetter, IsDigit, IsWord}
-use Rattle.spf_lex.specs.Derivation.{Derivation, Spells}
-use Rattle.spf_lex.specs.Grammar.{One}
-use Rattle.spf_lex.specs.Lexeme.{symbols, number_of}
+use Rattle.spf_lex.specs.Lexeme.{symbols}
 use Rattle.spf_lex.specs.Tokens.{IsTokenText}
 use Rattle.spf_lex.proofs.Fronts.{BeginsWith-apart}
 use Rattle.spf_lex.proofs.Lexemes.{word_no_number, number_begins}
 use Rattle.spf_lex.proofs.Symbols.{BeginsSymbol, symbol_begins, length-symbol}
-use Rattle.spf_lex.proofs.Written.{decimal_token}
 use Rattle.spf_kernel.specs.declared.kind.Kind.{Kind}
 use Rattle.spf_kernel.specs.declared.kind.Kind.TheVariants as kind
-use Rattle.spf_kernel.specs.declared.token.Token.{Token}
 use Rattle.spf_kernel.specs.IsKernel.{kind_of}
-use Rattle.spf_kernel.specs.KernelGrammar.{numeral}
-use Rattle.spf_kernel.specs.RawTree.{number_in}
-use Rattle.spf_kernel.specs.Token.{token_of, numbered, kind_and_value}
-use Rattle.spf_kernel.proofs.Spelling.{one_spelled, left_spelled, right_spelled}
+use Rattle.spf_kernel.specs.Token.{token_of}
 use Rattle.spf_kernel.proofs.Written.{IsNameText}
 
 -- the word is a token of this kind, wherever it stands
@@ -207,42 +200,8 @@ pub at_least_word : IsFixed kind.AtLeast (codes ">=")
 unfolding token_of
 at_least_word = symbol kind.AtLeast (codes ">=") 6 refl refl (λ at. refl)
 
--- ---- names and numbers
+-- ---- names
 
 pub name_fixed : (text : List ℕ) → IsNameText text → IsFixed kind.Name text
 unfolding token_of
 name_fixed text name = record { token = name.token; is = λ at. name.named }
-
--- the text of n is a number of this value
-pub record IsNumeral (n at : ℕ) : Type 0 where
-  pub derivation : Derivation Token numeral
-  pub spells : Spells kind_of numeral (numbered at (decimal n ∷ [])) derivation
-  pub token : number_in derivation ≡ token_of at (decimal n)
-  pub value : (token_of at (decimal n)).value ≡ n
-  pub legible : IsTokenText (decimal n)
-
-decimal_kind : (n at : ℕ) → number_of (decimal n) ≡ Some n → kind_of (token_of at (decimal n)) ≡ (if n == 1 then kind.One else kind.Number)
-unfolding token_of
-decimal_kind n at e = ap (λ (found : Option ℕ). (kind_and_value (decimal n) found).0) e
-
-decimal_value : (n at : ℕ) → number_of (decimal n) ≡ Some n → (token_of at (decimal n)).value ≡ n
-unfolding token_of
-decimal_value n at e = ap (λ (found : Option ℕ). (kind_and_value (decimal n) found).1) e
-
-pub numeral_written : (n at : ℕ) → n ≤ 2 ^ 63 → IsNumeral n at
-numeral_written n at small = by (n == 1) (decimal_kind n at (decimal_token n small).1) where
-  by : (b : Bool) → kind_of (token_of at (decimal n)) ≡ (if b then kind.One else kind.Number) → IsNumeral n at
-  by true is = record {
-    derivation = inl (token_of at (decimal n));
-    spells = left_spelled (One kind.One) (One kind.Number) (numbered at (decimal n ∷ [])) (token_of at (decimal n)) (one_spelled kind.One at (decimal n) is);
-    token = refl;
-    value = decimal_value n at (decimal_token n small).1;
-    legible = (decimal_token n small).0;
-  }
-  by false is = record {
-    derivation = inr (token_of at (decimal n));
-    spells = right_spelled (One kind.One) (One kind.Number) (numbered at (decimal n ∷ [])) (token_of at (decimal n)) (one_spelled kind.Number at (decimal n) is);
-    token = refl;
-    value = decimal_value n at (decimal_token n small).1;
-    legible = (decimal_token n small).0;
-  }

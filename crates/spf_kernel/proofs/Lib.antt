@@ -5,7 +5,9 @@ pub mod Clear
 pub mod Counting
 pub mod Declared
 pub mod FewSites
+pub mod FewestPieces
 pub mod FirstBreach
+pub mod FittingNames
 pub mod FixedWords
 pub mod KernelAgreement
 pub mod KernelReading
@@ -30,15 +32,16 @@ pub mod Places
 pub mod PrintEquations
 pub mod PrintedConstants
 pub mod PrintedParses
-pub mod PrintedTokens
 pub mod RulesAgain
 pub mod Signs
 pub mod SiteCounts
+pub mod SpelledParts
 pub mod Spelling
 pub mod Standing
 pub mod TermEquations
 pub mod TextTokens
 pub mod TokenKinds
+pub mod TokenLeaves
 pub mod Told
 pub mod ToldNames
 pub mod ToldRules
@@ -59,6 +62,7 @@ pub mod WrittenNumbers
 pub mod WrittenParts
 pub mod WrittenProducts
 pub mod WrittenScopes
+pub mod WrittenSigns
 pub mod WrittenStatements
 pub mod WrittenSums
 pub mod WrittenTerms

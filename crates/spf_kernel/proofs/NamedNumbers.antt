@@ -31,7 +31,11 @@ number_found (first ∷ names) name found = by (bytes_eq name first) refl (numbe
   by false same more found = one_behind first names name (number_of names name) (more found)
 
 -- a name that some note declares to be this
+pub number_declared : (texts : List (List ℕ)) (test : Says → Bool) (notes : List Note) (name : Token) → declares texts test notes name ≡ true
+    → IsNumberOf (names_that texts test notes) (text_of texts name) (number_of (names_that texts test notes) (text_of texts name))
+number_declared texts test notes name declared =
+    number_found (names_that texts test notes) (text_of texts name) (list_any-map (text_of texts) (bytes_eq (text_of texts name)) (tokens_that test notes) ∙ declared)
+
 pub declared_below : (texts : List (List ℕ)) (test : Says → Bool) (notes : List Note) (name : Token) → declares texts test notes name ≡ true
     → number_of (names_that texts test notes) (text_of texts name) < length (names_that texts test notes)
-declared_below texts test notes name declared =
-    (number_found (names_that texts test notes) (text_of texts name) (list_any-map (text_of texts) (bytes_eq (text_of texts name)) (tokens_that test notes) ∙ declared)).below
+declared_below texts test notes name declared = (number_declared texts test notes name declared).below

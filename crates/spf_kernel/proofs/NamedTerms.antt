@@ -1,8 +1,7 @@
 -- Where all used names fit, index expressions and values are named.
-use Rattle.std.proofs.Common.{◌≡◌, ℕ, ◌<◌, Bool, true, false, ◌||◌, ◌&&◌, List, [], ◌∷◌, ◌++◌, length, Option, None, Some, is_some, refl, sym, ◌∙◌, subst, arith}
+use Rattle.std.proofs.Common.{◌≡◌, ℕ, ◌<◌, Bool, true, false, List, [], ◌∷◌, ◌++◌, length, Option, None, Some, is_some, refl, subst}
 use Rattle.std.specs.Prelude.{ℤ, if◌then◌else◌}
 use Rattle.std.specs.List.{AllByRecursion}
-use Rattle.std.specs.Str.{bytes_eq}
 use Rattle.spf_base.specs.Wrap.{wrap}
 use Rattle.spf_lex.proofs.Leaves.{split_each, join_each}
 use Rattle.spf_term.specs.declared.term.Term.{Term, Term', out-Term, roll-Term, out-roll-Term, Row_of-Mono, end_of-Mono, more_of-Mono, items-the_row-Mono, items_shown-the_row-Mono-0}
@@ -25,10 +24,9 @@ use Rattle.spf_kernel.specs.declared.tree.Factor.TheVariants as factor
 use Rattle.spf_kernel.specs.Names.{Names, names_of}
 use Rattle.spf_kernel.specs.Named.{NameCounts, IsNamedTerm, AreNamedMonos, IsNamedAtom, IsNamedValue, AreNamedProds, AreNamedFactors, IsNamedFactor}
 use Rattle.spf_kernel.specs.Notes.{ix_notes, steps_notes, mono_notes, atom_notes, value_notes, facts_notes, summands_notes, fact_notes, body_notes, subscript_notes}
-use Rattle.spf_kernel.specs.Resolved.{constant_of, variable_of, param_of, table_of, data_array_of, is_data_array, bare_atom, bare_factor, term_of, more_monos, monos_of, atom_of, factor_at, value_of, more_factors, more_prods, factor_of, product}
-use Rattle.spf_kernel.specs.Rules.{is_param, is_table, is_data, names_variable, takes_data, takes_table, declares, fits, text_of, tokens_that}
-use Rattle.spf_kernel.proofs.NameLists.{list_any-map}
-use Rattle.spf_kernel.proofs.NamedNumbers.{declared_below}
+use Rattle.spf_kernel.specs.Resolved.{constant_of, variable_of, table_of, data_array_of, is_data_array, bare_atom, bare_factor, term_of, more_monos, monos_of, atom_of, factor_at, value_of, more_factors, more_prods, factor_of, product}
+use Rattle.spf_kernel.specs.Rules.{takes_data, fits}
+use Rattle.spf_kernel.proofs.FittingNames.{IsBare, bare_fits, table_fits, IsEntry, entry_fits}
 use Rattle.spf_kernel.proofs.NamedUses.{AreFitting, IsFitting}
 
 -- ---- terms and values made of lists
@@ -85,43 +83,23 @@ module _ (texts : List (List ℕ)) (notes : List Note) (scope : Scope) (variable
   counts = counts_of_names names
 
   -- a variable in scope, or else a declared parameter
-  abbrev IsBare : Option ℕ → Token → Type 0
-  IsBare (Some variable) name = variable < variables
-  IsBare None name = param_of texts names name < counts.params
+  abbrev IsNamedBare : Token → Option ℕ → Type 0
+  IsNamedBare = IsBare texts notes (λ variable. variable < variables)
 
-  bare : (spot : Spot) (name : Token) → fits texts notes name false spot scope ≡ true → IsBare (variable_of texts scope name) name
-  bare spot name fit = by (variable_of texts scope name) (has name) param where
-    by : (found : Option ℕ) → ((variable : ℕ) → found ≡ Some variable → variable < variables) → (found ≡ None → param_of texts names name < counts.params) → IsBare found name
-    by (Some variable) below other = below variable refl
-    by None below other = other refl
+  bare : (spot : Spot) (name : Token) → fits texts notes name false spot scope ≡ true → IsNamedBare name (variable_of texts scope name)
+  bare spot name fit = bare_fits texts notes (λ variable. variable < variables) spot scope name fit (has name)
 
-    number_from : Bool → Bool → Option ℕ
-    number_from outer inner = if outer then Some 0 else (if inner then Some 1 else None)
-
-    declared : (outer inner param : Bool) → (outer || inner) || param ≡ true → number_from outer inner ≡ None → param ≡ true
-    declared true inner param fit none = absurd cc
-    declared false true param fit none = absurd cc
-    declared false false param fit none = fit
-
-    param : variable_of texts scope name ≡ None → param_of texts names name < counts.params
-    param none = declared_below texts is_param notes name (declared (names_variable texts scope.outer name) (names_variable texts scope.inner name) (declares texts is_param notes name) fit none)
-
-  atom_bare : (name : Token) (variable : Option ℕ) → IsBare variable name → IsNamedAtom counts variables (bare_atom texts names variable name)
+  atom_bare : (name : Token) (variable : Option ℕ) → IsNamedBare name variable → IsNamedAtom counts variables (bare_atom texts names variable name)
   atom_bare name (Some variable) below = below
-  atom_bare name None below = below
+  atom_bare name None number = number.below
 
-  factor_bare : (name : Token) (variable : Option ℕ) → IsBare variable name → IsNamedFactor counts variables (bare_factor texts names variable name)
+  factor_bare : (name : Token) (variable : Option ℕ) → IsNamedBare name variable → IsNamedFactor counts variables (bare_factor texts names variable name)
   factor_bare name (Some variable) below = below
-  factor_bare name None below = below
+  factor_bare name None number = number.below
 
   -- ---- index expressions
 
   module _ (spot : Spot) (no_data : takes_data texts spot ≡ false) where
-    table : (name : Token) → fits texts notes name true spot scope ≡ true → table_of texts names name < counts.tables
-    table name fit = declared_below texts is_table notes name (by (takes_table texts spot) (declares texts is_table notes name) (takes_data texts spot) (declares texts is_data notes name) no_data fit) where
-      by : (takes_t t takes_d d : Bool) → takes_d ≡ false → (takes_t && t) || (takes_d && d) ≡ true → t ≡ true
-      by takes_t t takes_d d none fit = grind arith
-
     mutual
       pub term_named : (x : RawIx) → AreFitting texts notes (ix_notes spot scope x) → IsNamedTerm counts variables (term_of texts names scope x)
       term_named (RawIx' lead first shape others) each =
@@ -144,7 +122,7 @@ module _ (texts : List (List ℕ)) (notes : List Note) (scope : Scope) (variable
       atom_named (RawAtom' name RawAtom-at-None') each = atom_bare name (variable_of texts scope name) (bare spot name each.0)
       atom_named (RawAtom' name (RawAtom-at-Some' shape (more_of-RawIx ix end_of-RawIx))) each =
           let parts = split_each (IsFitting texts notes) (ix_notes spot scope ix) [] each.1 in
-          (table name each.0, term_named ix parts.0)
+          ((table_fits texts notes spot no_data scope name each.0).below, term_named ix parts.0)
 
   pub body_named : (x : RawIx) → AreFitting texts notes (body_notes scope x) → IsNamedTerm counts variables (term_of texts names scope x)
   body_named x each = term_named spot_is.Body refl x each.1
@@ -154,22 +132,11 @@ module _ (texts : List (List ℕ)) (notes : List Note) (scope : Scope) (variable
   -- a name, and what stands in the brackets behind it
   at_named : (name : Token) (at : Option RawIx) → fits texts notes name (is_some at) spot_is.Factor scope ≡ true → AreFitting texts notes (subscript_notes scope at) → IsNamedFactor counts variables (factor_at texts names scope name at)
   at_named name None fit each = factor_bare name (variable_of texts scope name) (bare spot_is.Factor name fit)
-  at_named name (Some ix) fit each = by (is_data_array texts names name) cell table_entry where
-    cell : is_data_array texts names name ≡ true → data_array_of texts names name < counts.arrays
-    cell e = declared_below texts is_data notes name (sym (list_any-map (text_of texts) (bytes_eq (text_of texts name)) (tokens_that is_data notes)) ∙ e)
-
-    left : (t d : Bool) → t || d ≡ true → d ≡ false → t ≡ true
-    left t d fit none = grind arith
-
-    table_entry : is_data_array texts names name ≡ false → table_of texts names name < counts.tables
-    table_entry e =
-        let none : declares texts is_data notes name ≡ false = sym (list_any-map (text_of texts) (bytes_eq (text_of texts name)) (tokens_that is_data notes)) ∙ e in
-        declared_below texts is_table notes name (left (declares texts is_table notes name) (declares texts is_data notes name) fit none)
-
-    by : (b : Bool) → (b ≡ true → data_array_of texts names name < counts.arrays) → (b ≡ false → table_of texts names name < counts.tables)
+  at_named name (Some ix) fit each = by (is_data_array texts names name) (entry_fits texts notes scope name fit) where
+    by : (b : Bool) → IsEntry texts notes name b
         → IsNamedFactor counts variables (if b then factor.Cell (data_array_of texts names name) (term_of texts names scope ix) else factor.Index (table_of texts names name) (term_of texts names scope ix))
-    by true cell entry = (cell refl, body_named ix each)
-    by false cell entry = (entry refl, body_named ix each)
+    by true number = (number.below, body_named ix each)
+    by false number = (number.below, body_named ix each)
 
   mutual
     pub value_named : (x : RawValue) → AreFitting texts notes (value_notes scope x) → IsNamedValue counts variables (value_of texts names scope x)

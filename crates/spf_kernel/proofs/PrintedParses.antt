@@ -25,10 +25,10 @@ use Rattle.spf_kernel.specs.Rules.{IsUnbroken}
 use Rattle.spf_kernel.specs.Stands.{StandsAt}
 use Rattle.spf_kernel.specs.Token.{tokens_of}
 use Rattle.spf_kernel.proofs.Numbered.{numbered_length}
-use Rattle.spf_kernel.proofs.PrintedTokens.{token_is_leaf}
 use Rattle.spf_kernel.proofs.RulesAgain.{names_again, unbroken_again, all_kept}
 use Rattle.spf_kernel.proofs.Spelling.{holds_all}
 use Rattle.spf_kernel.proofs.TextTokens.{standing_leaves}
+use Rattle.spf_kernel.proofs.TokenLeaves.{token_is_leaf}
 use Rattle.spf_kernel.proofs.Written.{IsLeaf, IsWritten}
 use Rattle.spf_kernel.proofs.WrittenKernel.{kernel_written_again}
 
@@ -60,11 +60,11 @@ module _ (texts_before words : List (List ℕ)) (raw : RawKernel) where
       → ParsesTo (record { text = text; spans = spans }) 0 (length spans) (meaning texts_before raw)
   parses_again spans text are unbroken written =
       let tokens : Tokenized = record { text = text; spans = spans } in
-      let again = kernel_in written.derivation in
+      let again = kernel_in written.text.derivation in
       let count : length spans ≡ length words = sym (length-map spans _) ∙ ap length are in
       record {
         raw = again;
-        stands = stands_again tokens words (length spans) written.derivation are count written.spells;
+        stands = stands_again tokens words (length spans) written.text.derivation are count written.text.spells;
         unbroken = rw are (unbroken_again texts_before words notes (kernel_notes again) written.alike unbroken);
         means =
             sym written.means ∙ ap (λ (names : Names). tree_of words names again) (sym (names_again texts_before words notes (kernel_notes again) written.alike.same))
@@ -80,7 +80,7 @@ printed_from texts_before d leaves unbroken =
     by : (words : List (List ℕ)) → IsWritten texts_before words kernel kernel_in (tree_of words (names_of texts_before (kernel_notes (kernel_in d)))) kernel_notes (meaning texts_before (kernel_in d)) words (kernel_notes (kernel_in d)) 0
         → IsTextOf (joined words) (meaning texts_before (kernel_in d))
     by words written =
-        let (spans, read, are) = joined_tokens words (All-from_recursion IsTokenText words written.legible) in
+        let (spans, read, are) = joined_tokens words (All-from_recursion IsTokenText words written.text.legible) in
         record { spans = spans; tokens = read; parses = parses_again texts_before words (kernel_in d) spans (joined words) are unbroken written }
 
 pub printed_parses : (tree : Tree) → IsParsed tree → IsTextOf (joined (words_of tree)) tree

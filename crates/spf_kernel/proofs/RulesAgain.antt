@@ -18,7 +18,7 @@ use Rattle.spf_kernel.specs.Rules.{rules, IsUnbroken, is_expression, is_monomial
 use Rattle.spf_kernel.proofs.Alike.{early_split, told_append}
 use Rattle.spf_kernel.proofs.Counting.{more, since_more}
 use Rattle.spf_kernel.proofs.NamedUses.{IsFitting, all_fit}
-use Rattle.spf_kernel.proofs.Told.{Told, tells, told, IsWithin, IsSmall, IsKept, one_further, counted_on, IsEarly, AreEarly, Alike}
+use Rattle.spf_kernel.proofs.Told.{Told, tells, told, IsWithin, IsSmall, one_further, counted_on, IsEarly, AreEarly, Alike, AreKept}
 use Rattle.spf_kernel.proofs.ToldNames.{Seen, seen_in, seen_told}
 use Rattle.spf_kernel.proofs.ToldRules.{first, breaches, AreNone, kept_rules, told_breaches, breaches_told}
 use Rattle.spf_kernel.proofs.Unbroken.{unbroken_parts}
@@ -100,7 +100,7 @@ module _ (texts : List (List ℕ)) (notes : List Note) (unbroken : IsUnbroken te
     subst (λ n. AreEarly n rest) (monomials_more seen note) (early_rest (seen ++ note ∷ []) rest (behind seen note rest split)),
   )
 
-  kept_rest : (seen rest : List Note) → notes ≡ seen ++ rest → AllByRecursion (IsFitting texts notes) rest → AllByRecursion (IsKept texts notes) rest
+  kept_rest : (seen rest : List Note) → notes ≡ seen ++ rest → AllByRecursion (IsFitting texts notes) rest → AreKept texts notes rest
   kept_rest seen [] split fit = tt
   kept_rest seen (note ∷ rest) split fit = (
     record { fits = fit.0; small = within_limit texts seen note.token note.says (keeps_at seen note rest split).large },
@@ -108,7 +108,7 @@ module _ (texts : List (List ℕ)) (notes : List Note) (unbroken : IsUnbroken te
   )
 
 -- each used name fits, and each number is within its limit
-pub all_kept : (texts : List (List ℕ)) (notes : List Note) → IsUnbroken texts notes → AllByRecursion (IsKept texts notes) notes
+pub all_kept : (texts : List (List ℕ)) (notes : List Note) → IsUnbroken texts notes → AreKept texts notes notes
 all_kept texts notes unbroken = kept_rest texts notes unbroken [] notes refl (all_fit texts notes unbroken)
 
 -- ---- the note that tells this

@@ -1,5 +1,5 @@
--- Words as tokens: how the words of the parts of a text spell it, and which words the grammar quotes.
-use Rattle.std.proofs.Common.{◌≡◌, ℕ, ◌+◌, List, [], ◌∷◌, ◌++◌, length, get_or, refl, ap, ◌∙◌, subst, arith, inl, inr, append_assoc, length-append}
+-- Words as tokens: where words stand, and how the words of the parts of a text spell it.
+use Rattle.std.proofs.Common.{◌≡◌, ℕ, ◌+◌, List, [], ◌∷◌, ◌++◌, length, get_or, refl, subst, arith, inl, inr, append_assoc, length-append}
 use Rattle.spf_lex.specs.Grammar.{Grammar, Nothing, One, Then, Or, Many}
 use Rattle.spf_lex.specs.Derivation.{Derivation, Spells}
 use Rattle.spf_kernel.specs.declared.kind.Kind.{Kind}
@@ -7,15 +7,10 @@ use Rattle.spf_kernel.specs.declared.token.Token.{Token}
 use Rattle.spf_kernel.specs.IsKernel.{kind_of}
 use Rattle.spf_kernel.specs.Rules.{text_of}
 use Rattle.spf_kernel.specs.Token.{token_of, numbered}
+use Rattle.spf_kernel.proofs.Numbered.{numbered_append}
 use Rattle.spf_kernel.proofs.Written.{Holds}
 
 -- ---- words behind others
-
-pub numbered_append : (at : ℕ) (front back : List (List ℕ)) → numbered at (front ++ back) ≡ numbered at front ++ numbered (at + length front) back
-numbered_append at [] back = ap (λ n. numbered n back) (omega arith)
-numbered_append at (word ∷ front) back =
-    ap (λ (tokens : List Token). token_of at word ∷ tokens) (numbered_append (at + 1) front back)
-    ∙ ap (λ n. token_of at word ∷ numbered (at + 1) front ++ numbered n back) (omega (arith))
 
 -- words that stand one behind another stand each
 pub holds_both : (texts : List (List ℕ)) (at : ℕ) (front back : List (List ℕ)) → Holds texts at (front ++ back) → Holds texts at front × Holds texts (at + length front) back

@@ -49,6 +49,9 @@ pub record IsKept (texts : List (List ℕ)) (notes : List Note) (note : Note) : 
   pub fits : IsFitting texts notes note
   pub small : IsSmall note
 
+abbrev pub AreKept : List (List ℕ) → List Note → List Note → Type 0
+AreKept texts notes part = AllByRecursion (IsKept texts notes) part
+
 -- ---- monomials of index expressions
 
 -- how many monomials there are behind the last beginning of an index expression, with a note more

@@ -5,6 +5,7 @@ use Rattle.std.specs.List.{AllByRecursion}
 use Rattle.spf_lex.specs.Grammar.{Grammar}
 use Rattle.spf_lex.specs.Derivation.{Derivation, Spells}
 use Rattle.spf_lex.specs.Tokens.{IsTokenText}
+use Rattle.spf_lex.proofs.Leaves.{Leaves}
 use Rattle.spf_kernel.specs.declared.kind.Kind.{Kind}
 use Rattle.spf_kernel.specs.declared.kind.Kind.TheVariants as kind
 use Rattle.spf_kernel.specs.declared.token.Token.{Token}
@@ -45,11 +46,22 @@ pub record IsScoped (texts written : List (List ℕ)) (vars : List (List ℕ)) (
   pub outer : option_map (text_of written) again.outer ≡ option_map (text_of texts) scope.outer
   pub inner : option_map (text_of written) again.inner ≡ option_map (text_of texts) scope.inner
 
--- the words, as tokens from number `at` on, are a text of the grammar that means the part again and whose notes tell what its notes told
-pub record IsWritten (texts written : List (List ℕ)) {R A : Type 0} (g : Grammar Kind) (raw_of : Derivation Token g → R) (meaning : R → A) (notes : R → List Note)
-    (part : A) (words : List (List ℕ)) (others : List Note) (at : ℕ) : Type 0 where
+-- the words, as tokens from number `at` on, are a text of the grammar, and each is a token's text
+pub record IsText (g : Grammar Kind) (words : List (List ℕ)) (at : ℕ) : Type 0 where
   pub derivation : Derivation Token g
   pub spells : Spells kind_of g (numbered at words) derivation
-  pub means : meaning (raw_of derivation) ≡ part
-  pub alike : Alike texts written others (notes (raw_of derivation))
   pub legible : AllByRecursion IsTokenText words
+
+-- they are a text that means the part again and whose notes tell what its notes told
+pub record IsWritten (texts written : List (List ℕ)) {R A : Type 0} (g : Grammar Kind) (raw_of : Derivation Token g → R) (meaning : R → A) (notes : R → List Note)
+    (part : A) (words : List (List ℕ)) (others : List Note) (at : ℕ) : Type 0 where
+  pub text : IsText g words at
+  pub means : meaning (raw_of text.derivation) ≡ part
+  pub alike : Alike texts written others (notes (raw_of text.derivation))
+
+-- each text of the grammar whose notes are all such is written again, where the words that it is printed as stand
+abbrev pub AreWritten : (texts written : List (List ℕ)) {R A : Type 0} (Such : Note → Type 0) (g : Grammar Kind) (raw_of : Derivation Token g → R) (meaning again : R → A) (notes notes_again : R → List Note)
+    (words : A → List (List ℕ)) → Type 0
+AreWritten texts written Such g raw_of meaning again notes notes_again words =
+    (d : Derivation Token g) → Leaves (IsLeaf texts) g d → AllByRecursion Such (notes (raw_of d)) → (at : ℕ) → Holds written at (words (meaning (raw_of d)))
+    → IsWritten texts written g raw_of again notes_again (meaning (raw_of d)) (words (meaning (raw_of d))) (notes (raw_of d)) at

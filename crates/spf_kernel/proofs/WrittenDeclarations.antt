@@ -1,7 +1,6 @@
 -- Declarations are written again.
 use Rattle.std.proofs.Common.{◌≡◌, ℕ, ◌+◌, List, [], ◌∷◌, ◌++◌, length, map, flat_map, refl, ap, sym, ◌∙◌, subst, inl, inr, append_assoc}
 use Rattle.std.specs.Prelude.{codes}
-use Rattle.std.specs.List.{AllByRecursion}
 use Rattle.spf_lex.specs.Grammar.{One, Then}
 use Rattle.spf_lex.specs.Derivation.{Derivation}
 use Rattle.spf_lex.proofs.Leaves.{Leaves, split_each}
@@ -24,12 +23,14 @@ use Rattle.spf_kernel.specs.Scopes.{nothing}
 use Rattle.spf_kernel.specs.Token.{token_of}
 use Rattle.spf_kernel.proofs.Alike.{alike_none, alike_append, alike_declared}
 use Rattle.spf_kernel.proofs.FixedWords.{in_word, range_word, comma_word, semicolon_word, param_word, index_word, data_word}
+use Rattle.spf_kernel.proofs.SpelledParts.{word_alone, behind_word, behind_part, on_left, on_right, in_brackets}
 use Rattle.spf_kernel.proofs.Spelling.{holds_both}
-use Rattle.spf_kernel.proofs.Told.{Alike, IsKept}
-use Rattle.spf_kernel.proofs.Written.{IsLeaf, IsWritten, Holds, shown}
-use Rattle.spf_kernel.proofs.WrittenLists.{many_written, led_written}
-use Rattle.spf_kernel.proofs.WrittenParts.{IsText, as_text, word_alone, behind_word, behind_part, on_left, on_right, in_brackets, stands_inside, written_by, name_written, trend_written}
+use Rattle.spf_kernel.proofs.Told.{Alike, IsKept, AreKept}
+use Rattle.spf_kernel.proofs.Written.{IsText, IsLeaf, Holds, shown, AreWritten}
+use Rattle.spf_kernel.proofs.WrittenLists.{many_led_written}
+use Rattle.spf_kernel.proofs.WrittenParts.{stands_inside, written_by, name_written}
 use Rattle.spf_kernel.proofs.WrittenScopes.{nothing_scoped}
+use Rattle.spf_kernel.proofs.WrittenSigns.{trend_written}
 use Rattle.spf_kernel.proofs.WrittenTerms.{ix_written}
 
 -- ---- the words, put together as the grammar puts them
@@ -53,14 +54,8 @@ module _ (texts written : List (List ℕ)) (notes : List Note) where
   abbrev printed : TreeNames
   printed = shown names
 
-  abbrev Kept : List Note → Type 0
-  Kept part = AllByRecursion (IsKept texts notes) part
-
   -- an index expression with no variable in scope
-  pub head_written : (depth : ℕ) (d : Derivation Token (ix depth)) → Leaves (IsLeaf texts) (ix depth) d → Kept (head_notes (ix_in depth d)) → (at : ℕ)
-      → Holds written at (term_words printed [] (head_of texts names (ix_in depth d)))
-      → IsWritten texts written (ix depth) (ix_in depth) (head_of written names) head_notes (head_of texts names (ix_in depth d)) (term_words printed [] (head_of texts names (ix_in depth d)))
-      (head_notes (ix_in depth d)) at
+  pub head_written : (depth : ℕ) → AreWritten texts written (IsKept texts notes) (ix depth) (ix_in depth) (head_of texts names) (head_of written names) head_notes head_notes (term_words printed [])
   head_written = ix_written texts written notes [] nothing nothing (nothing_scoped texts written) spot_is.Head refl
 
   -- ---- names of parameters
@@ -72,18 +67,11 @@ module _ (texts written : List (List ℕ)) (notes : List Note) where
   abbrev param_notes : Token → List Note
   param_notes name = param_note name ∷ []
 
-  abbrev further_words : List ℕ → List (List ℕ)
-  further_words name = codes "," ∷ name ∷ []
-
-  name_again : (d : Derivation Token (Then (One kind.Comma) (One kind.Name))) → Leaves (IsLeaf texts) (Then (One kind.Comma) (One kind.Name)) d → Kept (param_notes (further_name d)) → (at : ℕ)
-      → Holds written at (further_words (text_of texts (further_name d)))
-      → IsWritten texts written (Then (One kind.Comma) (One kind.Name)) further_name (text_of written) param_notes (text_of texts (further_name d)) (further_words (text_of texts (further_name d)))
-      (param_notes (further_name d)) at
+  name_again : AreWritten texts written (IsKept texts notes) (One kind.Name) (λ name. name) (text_of texts) (text_of written) param_notes param_notes (λ name. name ∷ [])
   unfolding Leaves
-  name_again (comma, name) leaves kept at holds =
-      let is = name_written texts written name (text_of texts name) (at + 1) leaves.1 refl holds.1.0 in
-      written_by refl (behind_word at comma_word (word_alone (at + 1) is.fixed)) is.same
-      (alike_declared texts written name (token_of (at + 1) (text_of texts name)) sort_is.Param [] [] is.same (alike_none texts written))
+  name_again name leaf kept at holds =
+      let is = name_written texts written name (text_of texts name) at leaf refl holds.0 in
+      written_by refl (word_alone at is.fixed) is.same (alike_declared name (token_of at (text_of texts name)) sort_is.Param is.same alike_none)
 
   one_note_each : (names : List Token) → flat_map param_notes names ≡ map param_note names
   one_note_each [] = refl
@@ -98,7 +86,7 @@ module _ (texts written : List (List ℕ)) (notes : List Note) where
     pub size : head_of written names (sized_in text.derivation).size ≡ head_of texts names raw.size
     pub alike : Alike texts written (head_notes raw.size) (head_notes (sized_in text.derivation).size)
 
-  sized_written : (d : Derivation Token sized) → Leaves (IsLeaf texts) sized d → Kept (head_notes (sized_in d).size) → (at : ℕ)
+  sized_written : (d : Derivation Token sized) → Leaves (IsLeaf texts) sized d → AreKept texts notes (head_notes (sized_in d).size) → (at : ℕ)
       → Holds written at (sized_words printed (text_of texts (sized_in d).name) (head_of texts names (sized_in d).size)) → IsSizedAgain (sized_in d) at
   unfolding Leaves sized sized_in
   sized_written (name, (opened, (size, closed))) leaves kept at holds =
@@ -106,53 +94,43 @@ module _ (texts written : List (List ℕ)) (notes : List Note) where
       let is = name_written texts written name (text_of texts name) at leaves.0 refl holds.0 in
       let size_again = head_written 4 size leaves.1.1.0 kept (at + 1 + 1) (stands_inside written (at + 1) (codes "[") size_words (codes "]") holds.1) in
       record {
-        text = behind_word at is.fixed (in_brackets (at + 1) (as_text size_again));
+        text = behind_word at is.fixed (in_brackets (at + 1) size_again.text);
         name = is.same;
         size = size_again.means;
         alike = size_again.alike;
       }
 
-  cells_written : (d : Derivation Token sized) → Leaves (IsLeaf texts) sized d → Kept (cells_notes (sized_in d)) → (at : ℕ) → Holds written at (array_words printed (data_decl_of texts names (sized_in d)))
-      → IsWritten texts written sized sized_in (data_decl_of written names) cells_notes (data_decl_of texts names (sized_in d)) (array_words printed (data_decl_of texts names (sized_in d)))
-      (cells_notes (sized_in d)) at
+  cells_written : AreWritten texts written (IsKept texts notes) sized sized_in (data_decl_of texts names) (data_decl_of written names) cells_notes cells_notes (array_words printed)
   cells_written d leaves kept at holds =
       let is = sized_written d leaves kept.1 at holds in
       written_by refl is.text (λ i. record { name = is.name i; size = is.size i })
-      (alike_declared texts written (sized_in d).name (sized_in is.text.derivation).name sort_is.Data (head_notes (sized_in is.text.derivation).size) (head_notes (sized_in d).size) is.name is.alike)
+      (alike_declared (sized_in d).name (sized_in is.text.derivation).name sort_is.Data is.name is.alike)
 
   -- a further array of a list
   abbrev further_array : Derivation Token (Then (One kind.Comma) sized) → RawSized
   further_array x = sized_in x.1
 
-  array_again : (d : Derivation Token (Then (One kind.Comma) sized)) → Leaves (IsLeaf texts) (Then (One kind.Comma) sized) d → Kept (cells_notes (further_array d)) → (at : ℕ)
-      → Holds written at (codes "," ∷ array_words printed (data_decl_of texts names (further_array d)))
-      → IsWritten texts written (Then (One kind.Comma) sized) further_array (data_decl_of written names) cells_notes (data_decl_of texts names (further_array d))
-      (codes "," ∷ array_words printed (data_decl_of texts names (further_array d))) (cells_notes (further_array d)) at
-  unfolding Leaves
-  array_again d leaves kept at holds = led_written texts written at comma_word (cells_written d.1 leaves.1 kept (at + 1) holds.1)
-
   -- ---- declarations
 
-  pub decl_written : (d : Derivation Token decl) → Leaves (IsLeaf texts) decl d → Kept (decl_notes (decl_in d)) → (at : ℕ) → Holds written at (decl_words printed (decl_of texts names (decl_in d)))
-      → IsWritten texts written decl decl_in (decl_of written names) decl_notes (decl_of texts names (decl_in d)) (decl_words printed (decl_of texts names (decl_in d))) (decl_notes (decl_in d)) at
+  pub decl_written : AreWritten texts written (IsKept texts notes) decl decl_in (decl_of texts names) (decl_of written names) decl_notes decl_notes (decl_words printed)
   unfolding Leaves decl params index values decl_in
   decl_written (inl (word, (first, (others, end)))) leaves kept at holds =
-      let others_words = flat_map further_words (map (text_of texts) (map further_name others)) in
+      let others_words = flat_map (λ name. codes "," ∷ name ∷ []) (map (text_of texts) (map further_name others)) in
       let others_at = at + 1 + 1 in
       let line = list_line (codes "param") (text_of texts first ∷ []) others_words in
       let stands = subst (Holds written at) line holds in
       let behind = holds_both written others_at others_words (codes ";" ∷ []) stands.1.1 in
       let first_again = name_written texts written first (text_of texts first) (at + 1) leaves.1.0 refl stands.1.0 in
       let others_again =
-      many_written texts written (IsKept texts notes) (Then (One kind.Comma) (One kind.Name)) further_name (text_of texts) (text_of written) param_notes param_notes
-      further_words name_again others leaves.1.1.0 (subst Kept (sym (one_note_each (map further_name others))) kept.1) others_at behind.0
+      many_led_written texts written (IsKept texts notes) (One kind.Name) (λ name. name) (text_of texts) (text_of written) param_notes param_notes (λ name. name ∷ [])
+      comma_word name_again others leaves.1.1.0 (subst (AreKept texts notes) (sym (one_note_each (map further_name others))) kept.1) others_at behind.0
       in
       written_by line
-      (on_left (behind_word at param_word (behind_word (at + 1) first_again.fixed (behind_part (as_text others_again) (word_alone (others_at + length others_words) semicolon_word)))))
+      (on_left (behind_word at param_word (behind_word (at + 1) first_again.fixed (behind_part others_again.text (word_alone (others_at + length others_words) semicolon_word)))))
       (λ i. decl_is.Params (first_again.same i ∷ others_again.means i))
-      (alike_declared texts written first (token_of (at + 1) (text_of texts first)) sort_is.Param (map param_note (map further_name others_again.derivation)) (map param_note (map further_name others)) first_again.same
-      (subst (λ (new : List Note). Alike texts written (map param_note (map further_name others)) new) (one_note_each (map further_name others_again.derivation))
-      (subst (λ (old : List Note). Alike texts written old (flat_map param_notes (map further_name others_again.derivation))) (one_note_each (map further_name others)) others_again.alike)))
+      (alike_declared first (token_of (at + 1) (text_of texts first)) sort_is.Param first_again.same
+      (subst (λ (new : List Note). Alike texts written (map param_note (map further_name others)) new) (one_note_each (map further_name others_again.text.derivation))
+      (subst (λ (old : List Note). Alike texts written old (flat_map param_notes (map further_name others_again.text.derivation))) (one_note_each (map further_name others)) others_again.alike)))
   decl_written (inr (inl (word, (array, (in_token, (low, (dots, (high, (trend, end))))))))) leaves kept at holds =
       let raw = sized_in array in
       let array_part = sized_words printed (text_of texts raw.name) (head_of texts names raw.size) in
@@ -174,17 +152,13 @@ module _ (texts written : List (List ℕ)) (notes : List Note) where
       let high_again = head_written 5 high leaves.1.1.1.1.1.0 parts.1 high_at third.0 in
       let trend_again = trend_written (trend_in trend) trend_at in
       let raw_again = sized_in array_is.text.derivation in
-      let size_notes = head_notes raw_again.size in
-      let low_notes = head_notes (ix_in 5 low_again.derivation) in
-      let high_notes = head_notes (ix_in 5 high_again.derivation) in
       written_by line
-      (on_right (on_left (behind_word at index_word (behind_part array_is.text (behind_word (at + 1 + length array_part) in_word (behind_part (as_text low_again)
-      (behind_word (low_at + length low_words) range_word (behind_part (as_text high_again) (behind_part trend_again.text (word_alone (trend_at + length trend_part) semicolon_word)))))))))
+      (on_right (on_left (behind_word at index_word (behind_part array_is.text (behind_word (at + 1 + length array_part) in_word (behind_part low_again.text
+      (behind_word (low_at + length low_words) range_word (behind_part high_again.text (behind_part trend_again.text (word_alone (trend_at + length trend_part) semicolon_word)))))))))
       )
       (λ i. decl_is.Index (array_is.name i) (array_is.size i) (low_again.means i) (high_again.means i) (trend_again.same i))
-      (alike_declared texts written raw.name raw_again.name sort_is.Index ((size_notes ++ low_notes) ++ high_notes) ((head_notes raw.size ++ head_notes (ix_in 5 low)) ++ head_notes (ix_in 5 high)) array_is.name
-      (alike_append texts written (size_notes ++ low_notes) high_notes (head_notes raw.size ++ head_notes (ix_in 5 low)) (head_notes (ix_in 5 high))
-      (alike_append texts written size_notes low_notes (head_notes raw.size) (head_notes (ix_in 5 low)) array_is.alike low_again.alike) high_again.alike))
+      (alike_declared raw.name raw_again.name sort_is.Index array_is.name
+      (alike_append (alike_append array_is.alike low_again.alike) high_again.alike))
   decl_written (inr (inr (word, (first, (others, end))))) leaves kept at holds =
       let first_words = array_words printed (data_decl_of texts names (sized_in first)) in
       let others_words = flat_map (λ y. codes "," ∷ array_words printed y) (map (data_decl_of texts names) (map further_array others)) in
@@ -197,11 +171,10 @@ module _ (texts written : List (List ℕ)) (notes : List Note) where
       let parts = split_each (IsKept texts notes) (cells_notes (sized_in first)) others_notes kept in
       let first_again = cells_written first leaves.1.0 parts.0 (at + 1) behind.0 in
       let others_again =
-      many_written texts written (IsKept texts notes) (Then (One kind.Comma) sized) further_array (data_decl_of texts names) (data_decl_of written names) cells_notes cells_notes
-      (λ y. codes "," ∷ array_words printed y) array_again others leaves.1.1.0 parts.1 others_at last.0
+      many_led_written texts written (IsKept texts notes) sized sized_in (data_decl_of texts names) (data_decl_of written names) cells_notes cells_notes (array_words printed)
+      comma_word cells_written others leaves.1.1.0 parts.1 others_at last.0
       in
       written_by line
-      (on_right (on_right (behind_word at data_word (behind_part (as_text first_again) (behind_part (as_text others_again) (word_alone (others_at + length others_words) semicolon_word))))))
+      (on_right (on_right (behind_word at data_word (behind_part first_again.text (behind_part others_again.text (word_alone (others_at + length others_words) semicolon_word))))))
       (λ i. decl_is.Values (first_again.means i ∷ others_again.means i))
-      (alike_append texts written (cells_notes (sized_in first_again.derivation)) (flat_map cells_notes (map further_array others_again.derivation)) (cells_notes (sized_in first)) others_notes
-      first_again.alike others_again.alike)
+      (alike_append first_again.alike others_again.alike)

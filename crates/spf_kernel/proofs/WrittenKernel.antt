@@ -1,7 +1,6 @@
 -- A kernel is written again: the words that its tree is printed as are read as the same tree, with notes that tell the same.
 use Rattle.std.proofs.Common.{◌≡◌, ℕ, ◌+◌, List, [], ◌∷◌, ◌++◌, length, map, flat_map, ap, sym, ◌∙◌, subst, append_assoc}
 use Rattle.std.specs.Prelude.{codes}
-use Rattle.std.specs.List.{AllByRecursion}
 use Rattle.spf_lex.specs.Derivation.{Derivation}
 use Rattle.spf_lex.proofs.Leaves.{Leaves, split_each}
 use Rattle.spf_kernel.specs.declared.token.Token.{Token}
@@ -18,13 +17,14 @@ use Rattle.spf_kernel.specs.TreeNames.{names_in}
 use Rattle.spf_kernel.proofs.Alike.{alike_append}
 use Rattle.spf_kernel.proofs.FixedWords.{kernel_word, open_brace_word, close_brace_word, steps_word, semicolon_word}
 use Rattle.spf_kernel.proofs.NamedLists.{params_found, tables_found, arrays_found}
+use Rattle.spf_kernel.proofs.SpelledParts.{word_alone, behind_word, behind_part}
 use Rattle.spf_kernel.proofs.Spelling.{holds_both}
-use Rattle.spf_kernel.proofs.Told.{IsKept}
-use Rattle.spf_kernel.proofs.Written.{IsLeaf, IsWritten, Holds, shown}
+use Rattle.spf_kernel.proofs.Told.{IsKept, AreKept}
+use Rattle.spf_kernel.proofs.Written.{IsLeaf, IsWritten, Holds, shown, AreWritten}
 use Rattle.spf_kernel.proofs.WrittenDeclarations.{head_written, decl_written}
 use Rattle.spf_kernel.proofs.WrittenLists.{many_written}
 use Rattle.spf_kernel.proofs.WrittenLoops.{loop_written}
-use Rattle.spf_kernel.proofs.WrittenParts.{as_text, word_alone, behind_word, behind_part, written_by}
+use Rattle.spf_kernel.proofs.WrittenParts.{written_by}
 
 kernel_line : (decls steps loops : List (List ℕ))
     → codes "kernel" ∷ codes "{" ∷ decls ++ codes "steps" ∷ steps ++ codes ";" ∷ loops ++ codes "}" ∷ []
@@ -48,10 +48,7 @@ module _ (texts written : List (List ℕ)) (notes : List Note) where
   printed = shown names
 
   -- with names printed by the numbers that notes give them
-  pub kernel_written : (d : Derivation Token kernel) → Leaves (IsLeaf texts) kernel d → AllByRecursion (IsKept texts notes) (kernel_notes (kernel_in d)) → (at : ℕ)
-      → Holds written at (words_with printed (tree_of texts names (kernel_in d)))
-      → IsWritten texts written kernel kernel_in (tree_of written names) kernel_notes (tree_of texts names (kernel_in d)) (words_with printed (tree_of texts names (kernel_in d)))
-      (kernel_notes (kernel_in d)) at
+  pub kernel_written : AreWritten texts written (IsKept texts notes) kernel kernel_in (tree_of texts names) (tree_of written names) kernel_notes kernel_notes (words_with printed)
   unfolding Leaves kernel kernel_in kernel_notes
   kernel_written (word, (opened, (decls, (steps_token, (steps, (end, (loops, closed))))))) leaves kept at holds =
       let decls_words = flat_map (decl_words printed) (map (decl_of texts names) (map decl_in decls)) in
@@ -79,16 +76,13 @@ module _ (texts written : List (List ℕ)) (notes : List Note) where
       many_written texts written (IsKept texts notes) loop loop_in (loop_of texts names) (loop_of written names) loop_notes loop_notes (loop_words printed)
       (loop_written texts written notes) loops leaves.1.1.1.1.1.1.0 parts.1 loops_at third.0
       in
-      let decls_new = flat_map decl_notes (map decl_in decls_again.derivation) in
-      let steps_new = head_notes (ix_in 5 steps_again.derivation) in
-      let loops_new = flat_map loop_notes (map loop_in loops_again.derivation) in
+      let loops_new = flat_map loop_notes (map loop_in loops_again.text.derivation) in
       written_by line
-      (behind_word at kernel_word (behind_word (at + 1) open_brace_word (behind_part (as_text decls_again) (behind_word (decls_at + length decls_words) steps_word
-      (behind_part (as_text steps_again) (behind_word (steps_at + length steps_words) semicolon_word
-      (behind_part (as_text loops_again) (word_alone (loops_at + length loops_words) close_brace_word))))))))
+      (behind_word at kernel_word (behind_word (at + 1) open_brace_word (behind_part decls_again.text (behind_word (decls_at + length decls_words) steps_word
+      (behind_part steps_again.text (behind_word (steps_at + length steps_words) semicolon_word
+      (behind_part loops_again.text (word_alone (loops_at + length loops_words) close_brace_word))))))))
       (λ i. record { decls = decls_again.means i; steps = steps_again.means i; loops = loops_again.means i })
-      (alike_append texts written (decls_new ++ steps_new) loops_new (decls_notes ++ steps_notes) loops_notes
-      (alike_append texts written decls_new steps_new decls_notes steps_notes decls_again.alike steps_again.alike) loops_again.alike)
+      (alike_append {ys = loops_new} (alike_append decls_again.alike steps_again.alike) loops_again.alike)
 
 module _ (texts written : List (List ℕ)) (d : Derivation Token kernel) where
   abbrev kernel_names : Names
@@ -106,7 +100,7 @@ module _ (texts written : List (List ℕ)) (d : Derivation Token kernel) where
   }
 
   -- with names printed by the numbers that its own declarations give them
-  pub kernel_written_again : Leaves (IsLeaf texts) kernel d → AllByRecursion (IsKept texts (kernel_notes (kernel_in d))) (kernel_notes (kernel_in d)) → (at : ℕ) → Holds written at (words_of tree)
+  pub kernel_written_again : Leaves (IsLeaf texts) kernel d → AreKept texts (kernel_notes (kernel_in d)) (kernel_notes (kernel_in d)) → (at : ℕ) → Holds written at (words_of tree)
       → IsWritten texts written kernel kernel_in (tree_of written kernel_names) kernel_notes tree (words_of tree) (kernel_notes (kernel_in d)) at
   kernel_written_again leaves kept at holds =
       let W : TreeNames → List (List ℕ) = λ names. words_with names tree in

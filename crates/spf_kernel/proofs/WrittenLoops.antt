@@ -1,7 +1,6 @@
 -- Loops are written again: their ranges, and what stands in their bodies.
 use Rattle.std.proofs.Common.{◌≡◌, ℕ, ◌+◌, false, List, [], ◌∷◌, ◌++◌, length, map, flat_map, Some, None, refl, ap, sym, ◌∙◌, subst, inl, inr, append_assoc}
 use Rattle.std.specs.Prelude.{codes}
-use Rattle.std.specs.List.{AllByRecursion}
 use Rattle.spf_lex.specs.Derivation.{Derivation}
 use Rattle.spf_lex.proofs.Leaves.{Leaves, split_each}
 use Rattle.spf_kernel.specs.declared.token.Token.{Token}
@@ -31,11 +30,12 @@ use Rattle.spf_kernel.specs.Scopes.{nothing, within, inside}
 use Rattle.spf_kernel.specs.Token.{token_of}
 use Rattle.spf_kernel.proofs.Alike.{alike_append, alike_declared, alike_variable}
 use Rattle.spf_kernel.proofs.FixedWords.{in_word, range_word, for_word, loop_word, open_parenthesis_word, close_parenthesis_word}
+use Rattle.spf_kernel.proofs.SpelledParts.{behind_word, behind_part, on_left, on_right, braced_words, in_braces}
 use Rattle.spf_kernel.proofs.Spelling.{holds_both}
-use Rattle.spf_kernel.proofs.Told.{Alike, IsKept}
-use Rattle.spf_kernel.proofs.Written.{IsLeaf, IsScoped, IsWritten, Holds, shown}
+use Rattle.spf_kernel.proofs.Told.{Alike, IsKept, AreKept}
+use Rattle.spf_kernel.proofs.Written.{IsText, IsLeaf, IsScoped, Holds, shown, AreWritten}
 use Rattle.spf_kernel.proofs.WrittenLists.{many_written}
-use Rattle.spf_kernel.proofs.WrittenParts.{IsText, as_text, behind_word, behind_part, on_left, on_right, braced_words, in_braces, stands_inside, written_by, name_written}
+use Rattle.spf_kernel.proofs.WrittenParts.{stands_inside, written_by, name_written}
 use Rattle.spf_kernel.proofs.WrittenScopes.{nothing_scoped, within_scoped, inside_scoped}
 use Rattle.spf_kernel.proofs.WrittenStatements.{part_written}
 use Rattle.spf_kernel.proofs.WrittenTerms.{ix_written}
@@ -71,11 +71,8 @@ module _ (texts written : List (List ℕ)) (notes : List Note) where
   abbrev printed : TreeNames
   printed = shown names
 
-  abbrev Kept : List Note → Type 0
-  Kept part = AllByRecursion (IsKept texts notes) part
-
   pub range_written : (vars : List (List ℕ)) (scope again : Scope) → IsScoped texts written vars scope again → (spot : Spot) → takes_data texts spot ≡ false → (d : Derivation Token range)
-      → Leaves (IsLeaf texts) range d → Kept (bounds_notes spot scope (range_in d)) → (at : ℕ)
+      → Leaves (IsLeaf texts) range d → AreKept texts notes (bounds_notes spot scope (range_in d)) → (at : ℕ)
       → Holds written at (range_words printed vars (text_of texts (range_in d).var) (term_of texts names scope (range_in d).low) (term_of texts names scope (range_in d).high))
       → IsRangeAgain texts written names vars scope again spot (range_in d) at
   unfolding Leaves range range_in
@@ -90,13 +87,12 @@ module _ (texts written : List (List ℕ)) (notes : List Note) where
       let low_again = ix_written texts written notes vars scope again scoped spot no_data 5 low leaves.1.1.0 parts.0 low_at stands.0 in
       let high_again = ix_written texts written notes vars scope again scoped spot no_data 5 high leaves.1.1.1.1 parts.1 (dots_at + 1) stands.1.1 in
       record {
-        text = behind_word at name.fixed (behind_word (at + 1) in_word (behind_part (as_text low_again) (behind_word dots_at range_word (as_text high_again))));
+        text = behind_word at name.fixed (behind_word (at + 1) in_word (behind_part low_again.text (behind_word dots_at range_word high_again.text)));
         var = name.same;
         low = low_again.means;
         high = high_again.means;
         bounds =
-            alike_append texts written (expression_notes spot again (ix_in 5 low_again.derivation)) (expression_notes spot again (ix_in 5 high_again.derivation))
-            (expression_notes spot scope (ix_in 5 low)) (expression_notes spot scope (ix_in 5 high)) low_again.alike high_again.alike;
+            alike_append low_again.alike high_again.alike;
       }
 
   -- ---- the body of a loop
@@ -118,16 +114,13 @@ module _ (texts written : List (List ℕ)) (notes : List Note) where
     abbrev outer_vars : List (List ℕ)
     outer_vars = text_of texts outer ∷ []
 
-    item_written : (d : Derivation Token item) → Leaves (IsLeaf texts) item d → Kept (item_notes outer (item_in d)) → (at : ℕ)
-        → Holds written at (item_words printed outer_vars (item_of texts names outer (item_in d)))
-        → IsWritten texts written item item_in (item_of written names outer_again) (item_notes outer_again) (item_of texts names outer (item_in d))
-        (item_words printed outer_vars (item_of texts names outer (item_in d))) (item_notes outer (item_in d)) at
+    item_written : AreWritten texts written (IsKept texts notes) item item_in (item_of texts names outer) (item_of written names outer_again) (item_notes outer) (item_notes outer_again) (item_words printed outer_vars)
     unfolding Leaves item inner item_in
     item_written (inl x) leaves kept at holds =
         let line = ap (item_words printed outer_vars) (part_as_item texts outer (part_in x)) ∙ part_words_of_item outer_vars (part_of texts names (within outer) (part_in x)) in
         let is = part_written texts written notes outer_vars (within outer) (within outer_again) (within_scoped texts written outer outer_again same) x leaves kept at (subst (Holds written at) line holds) in
-        written_by line (on_left (as_text is))
-        (part_as_item written outer_again (part_in is.derivation) ∙ ap as_item is.means ∙ sym (part_as_item texts outer (part_in x))) is.alike
+        written_by line (on_left is.text)
+        (part_as_item written outer_again (part_in is.text.derivation) ∙ ap as_item is.means ∙ sym (part_as_item texts outer (part_in x))) is.alike
     item_written (inr (word, (x, (opened, (parts, closed))))) leaves kept at holds =
         let raw = range_in x in
         let scope = inside outer raw.var in
@@ -153,17 +146,14 @@ module _ (texts written : List (List ℕ)) (notes : List Note) where
         parts leaves.1.1.1.0 split.1 (body_at + 1) (stands_inside written body_at (codes "{") body_words (codes "}") behind.1)
         in
         let bounds_again = bounds_notes spot_is.Body (within outer_again) (range_in head_again.text.derivation) in
-        let body_notes_again = flat_map (part_notes scope_again) (map part_in body_again.derivation) in
-        written_by line (on_right (behind_word at for_word (behind_part head_again.text (in_braces body_at (as_text body_again)))))
+        let body_notes_again = flat_map (part_notes scope_again) (map part_in body_again.text.derivation) in
+        written_by line (on_right (behind_word at for_word (behind_part head_again.text (in_braces body_at body_again.text))))
         (λ i. item_is.Inner (head_again.var i) (head_again.low i) (head_again.high i) (body_again.means i))
-        (alike_variable texts written raw.var var_again (Some outer) (Some outer_again) (bounds_again ++ body_notes_again) (bounds ++ body_notes) head_again.var (λ i. Some (same i))
-        (alike_append texts written bounds_again body_notes_again bounds body_notes head_again.bounds body_again.alike))
+        (alike_variable raw.var var_again (Some outer) (Some outer_again) {xs = bounds_again ++ body_notes_again} head_again.var (λ i. Some (same i)) (alike_append {ys = body_notes_again} head_again.bounds body_again.alike))
 
   -- ---- loops
 
-  pub loop_written : (d : Derivation Token loop) → Leaves (IsLeaf texts) loop d → Kept (loop_notes (loop_in d)) → (at : ℕ)
-      → Holds written at (loop_words printed (loop_of texts names (loop_in d)))
-      → IsWritten texts written loop loop_in (loop_of written names) loop_notes (loop_of texts names (loop_in d)) (loop_words printed (loop_of texts names (loop_in d))) (loop_notes (loop_in d)) at
+  pub loop_written : AreWritten texts written (IsKept texts notes) loop loop_in (loop_of texts names) (loop_of written names) loop_notes loop_notes (loop_words printed)
   unfolding Leaves loop loop_in loop_notes
   loop_written (word, (name, (opened, (x, (closed, (open_brace, (items, close_brace))))))) leaves kept at holds =
       let raw = range_in x in
@@ -188,12 +178,10 @@ module _ (texts written : List (List ℕ)) (notes : List Note) where
       (stands_inside written body_at (codes "{") body_words (codes "}") behind.1.1)
       in
       let bounds_again = bounds_notes spot_is.Bound nothing (range_in head_again.text.derivation) in
-      let body_notes_again = flat_map (item_notes outer_again) (map item_in body_again.derivation) in
+      let body_notes_again = flat_map (item_notes outer_again) (map item_in body_again.text.derivation) in
       written_by line
       (behind_word at loop_word (behind_word (at + 1) name_again.fixed (behind_word (at + 1 + 1) open_parenthesis_word
-      (behind_part head_again.text (behind_word (head_at + length head_words) close_parenthesis_word (in_braces body_at (as_text body_again)))))))
+      (behind_part head_again.text (behind_word (head_at + length head_words) close_parenthesis_word (in_braces body_at body_again.text))))))
       (λ i. record { name = name_again.same i; var = head_again.var i; low = head_again.low i; high = head_again.high i; items = body_again.means i })
-      (alike_declared texts written name (token_of (at + 1) (text_of texts name)) sort_is.Loop
-      (note outer_again (Variable None) ∷ (bounds_again ++ body_notes_again)) (note outer (Variable None) ∷ (bounds ++ body_notes)) name_again.same
-      (alike_variable texts written outer outer_again None None (bounds_again ++ body_notes_again) (bounds ++ body_notes) head_again.var refl
-      (alike_append texts written bounds_again body_notes_again bounds body_notes head_again.bounds body_again.alike)))
+      (alike_declared name (token_of (at + 1) (text_of texts name)) sort_is.Loop {xs = note outer_again (Variable None) ∷ (bounds_again ++ body_notes_again)} name_again.same
+      (alike_variable outer outer_again None None {xs = bounds_again ++ body_notes_again} head_again.var refl (alike_append {ys = body_notes_again} head_again.bounds body_again.alike)))

@@ -4,34 +4,32 @@ use Rattle.std.specs.Int.{is_negative}
 use Rattle.std.specs.List.{AllByRecursion}
 use Rattle.std.proofs.lemmas.Bool.Decides.{nat_tests}
 use Rattle.spf_base.specs.Wrap.{wrap}
-use Rattle.spf_lex.specs.Grammar.{Grammar, Nothing, One, Then, optional}
+use Rattle.spf_lex.specs.Grammar.{Grammar, Then}
 use Rattle.spf_lex.specs.Derivation.{Derivation}
 use Rattle.spf_lex.proofs.Leaves.{Leaves, split_each}
 use Rattle.spf_term.specs.declared.term.Mono.{Mono, roll-Mono}
 use Rattle.spf_kernel.specs.declared.kind.Kind.{Kind}
-use Rattle.spf_kernel.specs.declared.kind.Kind.TheVariants as kind
 use Rattle.spf_kernel.specs.declared.token.Token.{Token}
 use Rattle.spf_kernel.specs.declared.note.Note.{Note}
 use Rattle.spf_kernel.specs.declared.note.Says.TheVariants.{Monomial, Number}
 use Rattle.spf_kernel.specs.declared.note.Spot.{Spot}
 use Rattle.spf_kernel.specs.declared.note.Scope.{Scope}
 use Rattle.spf_kernel.specs.declared.raw.RawAtom.{RawAtom, out-RawAtom}
-use Rattle.spf_kernel.specs.KernelGrammar.{numeral, sign, sum_of, mono_of}
+use Rattle.spf_kernel.specs.KernelGrammar.{sign, sum_of, mono_of}
 use Rattle.spf_kernel.specs.Names.{Names}
 use Rattle.spf_kernel.specs.Notes.{note, ix_notes, mono_notes, atom_notes}
 use Rattle.spf_kernel.specs.Printed.{mono_words, atom_words, term_words}
 use Rattle.spf_kernel.specs.RawTree.{number_in, is_minus, lead_in, mono_in, step_in, sum_in}
 use Rattle.spf_kernel.specs.Resolved.{signed, term_of, atom_of}
 use Rattle.spf_kernel.specs.Rules.{is_monomial, count_that}
-use Rattle.spf_kernel.specs.Token.{token_of, numbered}
 use Rattle.spf_kernel.proofs.Counting.{first_more}
-use Rattle.spf_kernel.proofs.FixedWords.{numeral_written, star_word}
+use Rattle.spf_kernel.proofs.FixedWords.{star_word}
 use Rattle.spf_kernel.proofs.NoteEquations.{step_notes}
 use Rattle.spf_kernel.proofs.PrintedConstants.{wrap_small, wrap_twice, signed_back, signed_size}
-use Rattle.spf_kernel.proofs.Spelling.{left_spelled, right_spelled, then_spelled, word_then_spelled}
-use Rattle.spf_kernel.proofs.Told.{IsKept, told}
+use Rattle.spf_kernel.proofs.SpelledParts.{behind_word, behind_part, on_left, on_right, numeral_written}
+use Rattle.spf_kernel.proofs.Told.{IsKept, told, AreKept}
 use Rattle.spf_kernel.proofs.Written.{Holds, IsLeaf, shown}
-use Rattle.spf_kernel.proofs.WrittenInside.{IsWrittenInside, IsMono, made_notes}
+use Rattle.spf_kernel.proofs.WrittenInside.{IsWrittenInside, AreWrittenInside, IsMono, made_notes}
 use Rattle.spf_kernel.proofs.WrittenSums.{IsSource, AreSources, sum_again}
 
 atom_count : (spot : Spot) (token : Token) (notes : List Note) → count_that is_monomial (note token (Monomial spot) ∷ notes) ≡ count_that is_monomial notes + 1
@@ -71,38 +69,32 @@ module _ (texts written : List (List ℕ)) (names : Names) (vars : List (List �
     bare_again one at holds =
         let found = read at holds in
         record {
-          derivation = inr found.derivation;
-          spells = right_spelled (Then numeral (optional (Then (One kind.Star) a))) a (numbered at (words_of_atom x)) found.derivation found.spells;
+          text = on_right found.text;
           gives = λ i. roll-Mono (record { coef = same_coef 1 one i; atom = found.means i }) ∷ [];
           total = refl;
-          same = found.same;
-          small = (tt, found.small);
-          few = omega (arith, atom_count spot (out-RawAtom (atom_in found.derivation)).name (atom_notes spot again (atom_in found.derivation)), found.few, counted);
-          legible = found.legible;
+          inside = record {
+            same = found.inside.same;
+            small = (tt, found.inside.small);
+            few = omega (arith, atom_count spot (out-RawAtom (atom_in found.text.derivation)).name (atom_notes spot again (atom_in found.text.derivation)), found.inside.few, counted);
+          };
         }
 
     -- another one, in front of a `*`
     times_again : (at : ℕ) → Holds written at (decimal (unsigned_abs coef) ∷ codes "*" ∷ words_of_atom x) → IsAgainWith (decimal (unsigned_abs coef) ∷ codes "*" ∷ words_of_atom x) at
     times_again at holds =
-        let words = words_of_atom x in
         let found = read (at + 1 + 1) holds.1.1 in
         let number = numeral_written (unsigned_abs coef) at (omega (arith, size)) in
-        let value : (number_in number.derivation).value ≡ unsigned_abs coef = ap (λ (token : Token). token.value) number.token ∙ number.value in
-        let star = token_of (at + 1) (codes "*") in
-        let notes = atom_notes spot again (atom_in found.derivation) in
-        let token = number_in number.derivation in
+        let token = number_in number.text.derivation in
+        let notes = atom_notes spot again (atom_in found.text.derivation) in
         record {
-          derivation = inl (number.derivation, inl (star, found.derivation));
-          spells = left_spelled (Then numeral (optional (Then (One kind.Star) a))) a (numbered at (decimal (unsigned_abs coef) ∷ codes "*" ∷ words)) (number.derivation, inl (star, found.derivation))
-              (then_spelled numeral (optional (Then (One kind.Star) a)) at (decimal (unsigned_abs coef) ∷ []) (codes "*" ∷ words) number.derivation (inl (star, found.derivation)) number.spells
-              (left_spelled (Then (One kind.Star) a) Nothing (numbered (at + 1) (codes "*" ∷ words)) (star, found.derivation)
-              (word_then_spelled kind.Star a (at + 1) (codes "*") words found.derivation (star_word.is (at + 1)) found.spells)));
-          gives = λ i. roll-Mono (record { coef = same_coef token.value value i; atom = found.means i }) ∷ [];
+          text = on_left (behind_part number.text (on_left (behind_word (at + 1) star_word found.text)));
+          gives = λ i. roll-Mono (record { coef = same_coef token.value number.value i; atom = found.means i }) ∷ [];
           total = refl;
-          same = found.same;
-          small = (tt, (omega (arith, value, size), found.small));
-          few = omega (arith, times_count spot token notes, found.few, counted);
-          legible = (number.legible, (star_word.token, found.legible));
+          inside = record {
+            same = found.inside.same;
+            small = (tt, (omega (arith, number.value, size), found.inside.small));
+            few = omega (arith, times_count spot token notes, found.inside.few, counted);
+          };
         }
 
     pub mono_again : (at : ℕ) → Holds written at (mono_words (shown names) vars given) → IsAgainWith (mono_words (shown names) vars given) at
@@ -117,8 +109,8 @@ module _ (texts written : List (List ℕ)) (names : Names) (vars : List (List �
 
   -- ---- the parts of a sum in the source
 
-  module _ (notes : List Note) (atoms : (d : Derivation Token a) → Leaves (IsLeaf texts) a d → AllByRecursion (IsKept texts notes) (atom_notes spot scope (atom_in d)) → IsAtomAgain (atom_in d)) where
-    mono_source : (minus : Bool) (d : Derivation Token (mono_of a)) → Leaves (IsLeaf texts) (mono_of a) d → AllByRecursion (IsKept texts notes) (mono_notes spot scope (mono_in a atom_in d))
+  module _ (notes : List Note) (atoms : AreWrittenInside texts written (IsKept texts notes) a atom_in (atom_of texts names scope) (atom_of written names again) (atom_notes spot scope) (atom_notes spot again) (atom_words (shown names) vars)) where
+    mono_source : (minus : Bool) (d : Derivation Token (mono_of a)) → Leaves (IsLeaf texts) (mono_of a) d → AreKept texts notes (mono_notes spot scope (mono_in a atom_in d))
         → IsSource texts written names vars scope again spot a atom_in minus (mono_in a atom_in d)
     unfolding Leaves
     mono_source minus (inl (number, inl (star, x))) leaves each =
@@ -148,7 +140,7 @@ module _ (texts written : List (List ℕ)) (names : Names) (vars : List (List �
         })
 
     step_sources : (ds : List (Derivation Token sign × Derivation Token (mono_of a))) → AllByRecursion (Leaves (IsLeaf texts) (Then sign (mono_of a))) ds
-        → AllByRecursion (IsKept texts notes) (flat_map (step_notes spot scope) (map (step_in a atom_in) ds)) → AreSources texts written names vars scope again spot a atom_in (map (step_in a atom_in) ds)
+        → AreKept texts notes (flat_map (step_notes spot scope) (map (step_in a atom_in) ds)) → AreSources texts written names vars scope again spot a atom_in (map (step_in a atom_in) ds)
     unfolding Leaves
     step_sources [] leaves each = tt
     step_sources (d ∷ ds) leaves each =
@@ -156,13 +148,11 @@ module _ (texts written : List (List ℕ)) (names : Names) (vars : List (List �
         (mono_source (is_minus d.0) d.1 leaves.0.1 parts.0, step_sources ds leaves.1 parts.1)
 
     -- where the atoms are written again, so is the sum
-    pub sum_read : (d : Derivation Token (sum_of (mono_of a))) → Leaves (IsLeaf texts) (sum_of (mono_of a)) d → AllByRecursion (IsKept texts notes) (ix_notes spot scope (sum_in a atom_in d)) → (at : ℕ)
-        → Holds written at (term_words (shown names) vars (term_of texts names scope (sum_in a atom_in d)))
-        → IsWrittenInside texts written (sum_of (mono_of a)) (sum_in a atom_in) (term_of written names again) (ix_notes spot again) (term_of texts names scope (sum_in a atom_in d))
-        (term_words (shown names) vars (term_of texts names scope (sum_in a atom_in d))) (ix_notes spot scope (sum_in a atom_in d)) at
+    pub sum_read : AreWrittenInside texts written (IsKept texts notes) (sum_of (mono_of a)) (sum_in a atom_in) (term_of texts names scope) (term_of written names again) (ix_notes spot scope) (ix_notes spot again)
+        (term_words (shown names) vars)
     unfolding Leaves
     sum_read (lead, (first, others)) leaves each =
         let steps = map (step_in a atom_in) others in
         let head = mono_in a atom_in first in
-        let parts = split_each (IsKept texts notes) (mono_notes spot scope head) (flat_map (step_notes spot scope) steps) (subst (AllByRecursion (IsKept texts notes)) (made_notes spot scope (lead_in lead) head steps) each) in
+        let parts = split_each (IsKept texts notes) (mono_notes spot scope head) (flat_map (step_notes spot scope) steps) (subst (AreKept texts notes) (made_notes spot scope (lead_in lead) head steps) each) in
         sum_again texts written names vars scope again spot a atom_in (lead_in lead) head steps (mono_source (is_some (lead_in lead)) first leaves.1.0 parts.0) (step_sources others leaves.1.1 parts.1)

@@ -1,64 +1,53 @@
 -- The printed constant of an index expression means it again.
-use Rattle.std.proofs.Common.{◌≡◌, ℕ, ℤ, ◌+◌, ◌-◌, ◌*◌, ◌≤◌, Bool, true, false, List, [], ◌∷◌, ◌++◌, length, flat_map, refl, ap, sym, ◌∙◌, subst, arith, append_assoc, inl, inr, decimal, min, unsigned_abs}
+use Rattle.std.proofs.Common.{◌≡◌, ℕ, ℤ, ◌+◌, ◌-◌, ◌*◌, ◌≤◌, Bool, true, false, List, [], ◌∷◌, ◌++◌, length, flat_map, refl, ap, sym, ◌∙◌, subst, arith, append_assoc, decimal, min, unsigned_abs}
 use Rattle.std.specs.Int.{is_negative}
 use Rattle.std.specs.List.{AllByRecursion}
 use Rattle.spf_base.specs.Wrap.{wrap}
-use Rattle.spf_lex.specs.Grammar.{Grammar, Nothing, One, Then, optional}
+use Rattle.spf_lex.specs.Grammar.{Grammar}
 use Rattle.spf_lex.specs.Derivation.{Derivation}
 use Rattle.spf_term.specs.declared.term.Term.{Term, roll-Term}
 use Rattle.spf_kernel.specs.declared.kind.Kind.{Kind}
-use Rattle.spf_kernel.specs.declared.kind.Kind.TheVariants as kind
 use Rattle.spf_kernel.specs.declared.token.Token.{Token}
 use Rattle.spf_kernel.specs.declared.note.Note.{Note}
 use Rattle.spf_kernel.specs.declared.note.Spot.{Spot}
 use Rattle.spf_kernel.specs.declared.note.Scope.{Scope}
 use Rattle.spf_kernel.specs.declared.raw.RawAtom.{RawAtom}
-use Rattle.spf_kernel.specs.KernelGrammar.{numeral, sum_of, mono_of}
+use Rattle.spf_kernel.specs.KernelGrammar.{sum_of, mono_of}
 use Rattle.spf_kernel.specs.Names.{Names}
 use Rattle.spf_kernel.specs.Notes.{ix_notes}
 use Rattle.spf_kernel.specs.Printed.{lead_words, sign_word, limit, pieces, further_number, only_number}
-use Rattle.spf_kernel.specs.RawTree.{sum_in, number_in}
+use Rattle.spf_kernel.specs.RawTree.{sum_in}
 use Rattle.spf_kernel.specs.Resolved.{signed, term_of}
 use Rattle.spf_kernel.specs.Rules.{is_monomial, count_that}
-use Rattle.spf_kernel.specs.Token.{numbered}
-use Rattle.spf_kernel.proofs.FixedWords.{numeral_written}
 use Rattle.spf_kernel.proofs.PrintedConstants.{IsPiece, summed, pieces_sum, pieces_small, pieces_few, signed_back, signed_sum}
-use Rattle.spf_kernel.proofs.Spelling.{nothing_spelled, left_spelled, right_spelled, then_spelled}
+use Rattle.spf_kernel.proofs.SpelledParts.{no_words, behind_part, on_left, on_right, numeral_written}
 use Rattle.spf_kernel.proofs.Told.{told}
-use Rattle.spf_kernel.proofs.WrittenInside.{IsWrittenInside, IsMono, AreSteps, no_steps, one_more_step, more_counted, sum_written}
+use Rattle.spf_kernel.proofs.WrittenInside.{IsWrittenInside, told_as, IsMono, AreSteps, no_steps, one_more_step, more_counted, sum_written}
 
 module _ (written : List (List ℕ)) (names : Names) (again : Scope) (spot : Spot) (a : Grammar Kind) (atom_in : Derivation Token a → RawAtom) where
   number_written : (minus : Bool) (n : ℕ) → n ≤ limit → (at : ℕ) → IsMono written names again spot a atom_in (decimal n ∷ []) minus [] (signed minus n) [] 1 at
   number_written minus n small at =
       let number = numeral_written n at (omega arith) in
-      let value : (number_in number.derivation).value ≡ n = ap (λ (token : Token). token.value) number.token ∙ number.value in
       record {
-        derivation = inl (number.derivation, inr tt);
-        spells = left_spelled (Then numeral (optional (Then (One kind.Star) a))) a (numbered at (decimal n ∷ [])) (number.derivation, inr tt)
-            (then_spelled numeral (optional (Then (One kind.Star) a)) at (decimal n ∷ []) [] number.derivation (inr tt) number.spells
-            (right_spelled (Then (One kind.Star) a) Nothing (numbered (at + 1) []) tt (nothing_spelled (at + 1))));
+        text = on_left (behind_part number.text (on_right (no_words (at + 1))));
         gives = refl;
-        total = ap (signed minus) value;
-        same = refl;
-        small = (tt, (omega (arith, value), tt));
-        few = omega arith;
-        legible = (number.legible, tt);
+        total = ap (signed minus) number.value;
+        inside = record { same = refl; small = (tt, (omega (arith, number.value), tt)); few = omega arith };
       }
 
   abbrev piece_words : Bool → List ℕ → List (List ℕ)
   piece_words minus ns = flat_map (λ piece. sign_word minus ∷ decimal piece ∷ []) ns
 
   numbers_written : (minus : Bool) (ns : List ℕ) → AllByRecursion IsPiece ns → (at : ℕ) → AreSteps written names again spot a atom_in (piece_words minus ns) [] (signed minus (summed ns)) [] (length ns) at
-  numbers_written true [] small at = no_steps written names again spot a atom_in (signed true 0) 0 at refl
-  numbers_written false [] small at = no_steps written names again spot a atom_in (signed false 0) 0 at refl
+  numbers_written true [] small at = no_steps at refl
+  numbers_written false [] small at = no_steps at refl
   numbers_written minus (n ∷ ns) small at =
-      one_more_step written names again spot a atom_in minus (decimal n ∷ []) [] (signed minus n) [] 1 (piece_words minus ns) [] (signed minus (summed ns)) [] (length ns) (length (n ∷ ns)) at
-      (signed minus (summed (n ∷ ns))) (number_written minus n small.0 (at + 1)) (numbers_written minus ns small.1 (at + 1 + 1)) (sym (signed_sum minus n (summed ns))) (omega arith)
+      one_more_step (length (n ∷ ns)) at (number_written minus n small.0 (at + 1)) (numbers_written minus ns small.1 (at + 1 + 1)) (sym (signed_sum minus n (summed ns))) (omega arith)
 
   -- a constant behind monomials
   pub further_written : (minus : Bool) (n k : ℕ) → n ≤ k * limit → (at : ℕ) → AreSteps written names again spot a atom_in (further_number minus n) [] (signed minus n) [] k at
   further_written minus n k fits at =
-      more_counted written names again spot a atom_in (further_number minus n) [] (signed minus n) [] (length (pieces n)) k at (pieces_few n k fits)
+      more_counted (pieces_few n k fits)
       (subst (λ m. AreSteps written names again spot a atom_in (further_number minus n) [] (signed minus m) [] (length (pieces n)) at) (pieces_sum n) (numbers_written minus (pieces n) (pieces_small n) at))
 
   -- a constant alone
@@ -71,8 +60,7 @@ module _ (written : List (List ℕ)) (names : Names) (again : Scope) (spot : Spo
       let rest = unsigned_abs c - limit in
       let lead = lead_words minus in
       let both : first + rest ≡ unsigned_abs c = omega arith in
-      subst (λ (words : List (List ℕ)). IsWrittenInside texts written (sum_of (mono_of a)) (sum_in a atom_in) (term_of written names again) (ix_notes spot again) part words notes at)
-      (append_assoc lead (decimal first ∷ []) (further_number minus rest))
-      (sum_written written names again spot a atom_in texts notes minus (decimal first ∷ []) [] (signed minus first) [] 1 (further_number minus rest) [] (signed minus rest) [] (k - 1) at c part
+      told_as refl (append_assoc lead (decimal first ∷ []) (further_number minus rest)) refl
+      (sum_written texts notes at
       (number_written minus first (omega arith) (at + length lead)) (further_written minus rest (k - 1) (omega arith) (at + length (lead ++ decimal first ∷ [])))
       (sym (signed_sum minus first rest) ∙ (ap (signed minus) both ∙ signed_back c)) is (sym none) (omega arith))

@@ -1,8 +1,6 @@
 -- Assignments, conditions and guarded assignments are written again.
 use Rattle.std.proofs.Common.{◌≡◌, ℕ, ◌+◌, true, List, [], ◌∷◌, ◌++◌, length, map, flat_map, refl, ap, ◌∙◌, subst, inl, inr, append_assoc}
 use Rattle.std.specs.Prelude.{codes}
-use Rattle.std.specs.Str.{bytes_eq}
-use Rattle.std.specs.List.{AllByRecursion}
 use Rattle.spf_lex.specs.Grammar.{One, Then}
 use Rattle.spf_lex.specs.Derivation.{Derivation}
 use Rattle.spf_lex.proofs.Leaves.{Leaves, split_each}
@@ -22,18 +20,19 @@ use Rattle.spf_kernel.specs.Notes.{ix_head, body_notes, value_notes, assign_note
 use Rattle.spf_kernel.specs.Printed.{term_words, value_words, becomes_word, compare_word, assign_words, cond_words, guard_words, part_words}
 use Rattle.spf_kernel.specs.RawTree.{ix_in, value_in, adds_in, assign_in, compare_in, cond_in, guard_in, part_in}
 use Rattle.spf_kernel.specs.Resolved.{term_of, value_of, data_array_of, becomes, assign_of, cond_of, guard_of, part_of}
-use Rattle.spf_kernel.specs.Rules.{text_of, is_data, tokens_that, declares}
+use Rattle.spf_kernel.specs.Rules.{is_data}
 use Rattle.spf_kernel.specs.Token.{token_of}
 use Rattle.spf_kernel.specs.TreeNames.{name_at}
 use Rattle.spf_kernel.proofs.Alike.{alike_append, alike_said, alike_used}
 use Rattle.spf_kernel.proofs.FixedWords.{semicolon_word, if_word, and_word}
-use Rattle.spf_kernel.proofs.NameLists.{list_any-map}
-use Rattle.spf_kernel.proofs.NamedNumbers.{number_found}
+use Rattle.spf_kernel.proofs.NamedNumbers.{number_declared}
+use Rattle.spf_kernel.proofs.SpelledParts.{word_alone, behind_word, behind_part, on_left, on_right, bracketed_words, in_brackets, braced_words, in_braces}
 use Rattle.spf_kernel.proofs.Spelling.{holds_both}
 use Rattle.spf_kernel.proofs.Told.{IsKept}
-use Rattle.spf_kernel.proofs.Written.{IsLeaf, IsScoped, IsWritten, Holds, shown}
-use Rattle.spf_kernel.proofs.WrittenLists.{many_written, led_written}
-use Rattle.spf_kernel.proofs.WrittenParts.{as_text, word_alone, behind_word, behind_part, on_left, on_right, bracketed_words, in_brackets, braced_words, in_braces, stands_inside, written_by, name_written, becomes_written, compare_written}
+use Rattle.spf_kernel.proofs.Written.{IsScoped, Holds, shown, AreWritten}
+use Rattle.spf_kernel.proofs.WrittenLists.{many_written, many_led_written}
+use Rattle.spf_kernel.proofs.WrittenParts.{stands_inside, written_by, name_written}
+use Rattle.spf_kernel.proofs.WrittenSigns.{becomes_written, compare_written}
 use Rattle.spf_kernel.proofs.WrittenTerms.{ix_written}
 use Rattle.spf_kernel.proofs.WrittenValues.{value_written}
 
@@ -56,20 +55,9 @@ module _ (texts written : List (List ℕ)) (notes : List Note) (vars : List (Lis
   abbrev printed : TreeNames
   printed = shown names
 
-  abbrev Kept : List Note → Type 0
-  Kept part = AllByRecursion (IsKept texts notes) part
-
   -- ---- assignments
 
-  -- a declared data array is printed by its name
-  target_named : (name : Token) → declares texts is_data notes name ≡ true → name_at names.data_arrays (data_array_of texts names name) ≡ text_of texts name
-  target_named name declared =
-      (number_found names.data_arrays (text_of texts name) (list_any-map (text_of texts) (bytes_eq (text_of texts name)) (tokens_that is_data notes) ∙ declared)).named
-
-  pub assign_written : (d : Derivation Token assign) → Leaves (IsLeaf texts) assign d → Kept (assign_notes scope (assign_in d)) → (at : ℕ)
-      → Holds written at (assign_words printed vars (assign_of texts names scope (assign_in d)))
-      → IsWritten texts written assign assign_in (assign_of written names again) (assign_notes again) (assign_of texts names scope (assign_in d))
-      (assign_words printed vars (assign_of texts names scope (assign_in d))) (assign_notes scope (assign_in d)) at
+  pub assign_written : AreWritten texts written (IsKept texts notes) assign assign_in (assign_of texts names scope) (assign_of written names again) (assign_notes scope) (assign_notes again) (assign_words printed vars)
   unfolding Leaves assign assign_in
   assign_written (array, ((opened, (sub, closed)), (sign, (x, end)))) leaves kept at holds =
       let word = name_at names.data_arrays (data_array_of texts names array) in
@@ -81,7 +69,7 @@ module _ (texts written : List (List ℕ)) (notes : List Note) (vars : List (Lis
       let stands = subst (Holds written at) line holds in
       let behind = holds_both written (at + 1) (bracketed_words sub_words) (sign_word ∷ (value_part ++ codes ";" ∷ [])) stands.1 in
       let parts = split_each (IsKept texts notes) (body_notes scope (ix_in 4 sub)) (value_notes scope (value_in x)) kept.1 in
-      let name = name_written texts written array word at leaves.0 (target_named array kept.0.fits) stands.0 in
+      let name = name_written texts written array word at leaves.0 (number_declared texts is_data notes array kept.0.fits).named stands.0 in
       let sub_again =
       ix_written texts written notes vars scope again scoped spot_is.Body refl 4 sub leaves.1.0.1.0 parts.0 (at + 1 + 1)
       (stands_inside written (at + 1) (codes "[") sub_words (codes "]") behind.0)
@@ -92,26 +80,19 @@ module _ (texts written : List (List ℕ)) (notes : List Note) (vars : List (Lis
       (stands_inside written sign_at sign_word value_part (codes ";") behind.1)
       in
       written_by line
-      (behind_word at name.fixed (behind_part (in_brackets (at + 1) (as_text sub_again))
-      (behind_part sign_again.text (behind_part (as_text value_again) (word_alone (sign_at + 1 + length value_part) semicolon_word)))))
+      (behind_word at name.fixed (behind_part (in_brackets (at + 1) sub_again.text)
+      (behind_part sign_again.text (behind_part value_again.text (word_alone (sign_at + 1 + length value_part) semicolon_word)))))
       (λ i. record {
         array = number_of names.data_arrays (name.same i);
         sub = sub_again.means i;
         sign = becomes (sign_again.same i);
         value = value_again.means i;
       })
-      (alike_used texts written array (token_of at word) true spot_is.Target scope again
-      (body_notes again (ix_in 4 sub_again.derivation) ++ value_notes again (value_in value_again.derivation))
-      (body_notes scope (ix_in 4 sub) ++ value_notes scope (value_in x)) name.same scoped.outer scoped.inner
-      (alike_append texts written (body_notes again (ix_in 4 sub_again.derivation)) (value_notes again (value_in value_again.derivation))
-      (body_notes scope (ix_in 4 sub)) (value_notes scope (value_in x)) sub_again.alike value_again.alike))
+      (alike_used array (token_of at word) true spot_is.Target scope again name.same scoped.outer scoped.inner (alike_append sub_again.alike value_again.alike))
 
   -- ---- conditions
 
-  pub cond_written : (d : Derivation Token cond) → Leaves (IsLeaf texts) cond d → Kept (cond_notes scope (cond_in d)) → (at : ℕ)
-      → Holds written at (cond_words printed vars (cond_of texts names scope (cond_in d)))
-      → IsWritten texts written cond cond_in (cond_of written names again) (cond_notes again) (cond_of texts names scope (cond_in d))
-      (cond_words printed vars (cond_of texts names scope (cond_in d))) (cond_notes scope (cond_in d)) at
+  pub cond_written : AreWritten texts written (IsKept texts notes) cond cond_in (cond_of texts names scope) (cond_of written names again) (cond_notes scope) (cond_notes again) (cond_words printed vars)
   unfolding Leaves cond cond_in
   cond_written (left, (sign, right)) leaves kept at holds =
       let left_words = term_words printed vars (term_of texts names scope (ix_in 5 left)) in
@@ -122,13 +103,9 @@ module _ (texts written : List (List ℕ)) (notes : List Note) (vars : List (Lis
       let left_again = ix_written texts written notes vars scope again scoped spot_is.Body refl 5 left leaves.0 parts.0 at stands.0 in
       let sign_again = compare_written (compare_in sign) sign_at in
       let right_again = ix_written texts written notes vars scope again scoped spot_is.Body refl 5 right leaves.1.1 parts.1 (sign_at + 1) stands.1.1 in
-      written_by refl (behind_part (as_text left_again) (behind_part sign_again.text (as_text right_again)))
+      written_by refl (behind_part left_again.text (behind_part sign_again.text right_again.text))
       (λ i. record { left = left_again.means i; sign = sign_again.same i; right = right_again.means i })
-      (alike_said texts written (ix_head (ix_in 5 left)) (ix_head (ix_in 5 left_again.derivation)) Condition
-      (body_notes again (ix_in 5 left_again.derivation) ++ body_notes again (ix_in 5 right_again.derivation))
-      (body_notes scope (ix_in 5 left) ++ body_notes scope (ix_in 5 right)) refl
-      (alike_append texts written (body_notes again (ix_in 5 left_again.derivation)) (body_notes again (ix_in 5 right_again.derivation))
-      (body_notes scope (ix_in 5 left)) (body_notes scope (ix_in 5 right)) left_again.alike right_again.alike))
+      (alike_said (ix_head (ix_in 5 left)) (ix_head (ix_in 5 left_again.text.derivation)) Condition refl (alike_append left_again.alike right_again.alike))
 
   -- ---- guarded assignments
 
@@ -136,17 +113,7 @@ module _ (texts written : List (List ℕ)) (notes : List Note) (vars : List (Lis
   abbrev further_in : Derivation Token (Then (One kind.And) cond) → RawCond
   further_in x = cond_in x.1
 
-  further_written : (d : Derivation Token (Then (One kind.And) cond)) → Leaves (IsLeaf texts) (Then (One kind.And) cond) d → Kept (cond_notes scope (further_in d)) → (at : ℕ)
-      → Holds written at (codes "and" ∷ cond_words printed vars (cond_of texts names scope (further_in d)))
-      → IsWritten texts written (Then (One kind.And) cond) further_in (cond_of written names again) (cond_notes again) (cond_of texts names scope (further_in d))
-      (codes "and" ∷ cond_words printed vars (cond_of texts names scope (further_in d))) (cond_notes scope (further_in d)) at
-  unfolding Leaves
-  further_written d leaves kept at holds = led_written texts written at and_word (cond_written d.1 leaves.1 kept (at + 1) holds.1)
-
-  pub guard_written : (d : Derivation Token guard) → Leaves (IsLeaf texts) guard d → Kept (guard_notes scope (guard_in d)) → (at : ℕ)
-      → Holds written at (guard_words printed vars (guard_of texts names scope (guard_in d)))
-      → IsWritten texts written guard guard_in (guard_of written names again) (guard_notes again) (guard_of texts names scope (guard_in d))
-      (guard_words printed vars (guard_of texts names scope (guard_in d))) (guard_notes scope (guard_in d)) at
+  pub guard_written : AreWritten texts written (IsKept texts notes) guard guard_in (guard_of texts names scope) (guard_of written names again) (guard_notes scope) (guard_notes again) (guard_words printed vars)
   unfolding Leaves guard guard_in
   guard_written (word, (first, (others, (opened, (body, closed))))) leaves kept at holds =
       let first_words = cond_words printed vars (cond_of texts names scope (cond_in first)) in
@@ -165,34 +132,29 @@ module _ (texts written : List (List ℕ)) (notes : List Note) (vars : List (Lis
       let conds = split_each (IsKept texts notes) first_notes others_notes parts.0 in
       let first_again = cond_written first leaves.1.0 conds.0 (at + 1) behind.0 in
       let others_again =
-      many_written texts written (IsKept texts notes) (Then (One kind.And) cond) further_in (cond_of texts names scope) (cond_of written names again)
-      (cond_notes scope) (cond_notes again) (λ y. codes "and" ∷ cond_words printed vars y) further_written others leaves.1.1.0 conds.1 others_at last.0
+      many_led_written texts written (IsKept texts notes) cond cond_in (cond_of texts names scope) (cond_of written names again) (cond_notes scope) (cond_notes again)
+      (cond_words printed vars) and_word cond_written others leaves.1.1.0 conds.1 others_at last.0
       in
       let body_again =
       many_written texts written (IsKept texts notes) assign assign_in (assign_of texts names scope) (assign_of written names again)
       (assign_notes scope) (assign_notes again) (assign_words printed vars) assign_written body leaves.1.1.1.1.0 parts.1 (body_at + 1)
       (stands_inside written body_at (codes "{") body_words (codes "}") last.1)
       in
-      let first_new = cond_notes again (cond_in first_again.derivation) in
-      let others_new = flat_map (cond_notes again) (map further_in others_again.derivation) in
-      let body_new = flat_map (assign_notes again) (map assign_in body_again.derivation) in
-      written_by line (behind_word at if_word (behind_part (as_text first_again) (behind_part (as_text others_again) (in_braces body_at (as_text body_again)))))
+      let first_new = cond_notes again (cond_in first_again.text.derivation) in
+      let others_new = flat_map (cond_notes again) (map further_in others_again.text.derivation) in
+      let body_new = flat_map (assign_notes again) (map assign_in body_again.text.derivation) in
+      written_by line (behind_word at if_word (behind_part first_again.text (behind_part others_again.text (in_braces body_at body_again.text))))
       (λ i. record { conds = first_again.means i ∷ others_again.means i; body = body_again.means i })
-      (alike_said texts written (ix_head (cond_in first).left) (ix_head (cond_in first_again.derivation).left) says_is.Guard
-      ((first_new ++ others_new) ++ body_new) ((first_notes ++ others_notes) ++ body_part) refl
-      (alike_append texts written (first_new ++ others_new) body_new (first_notes ++ others_notes) body_part
-      (alike_append texts written first_new others_new first_notes others_notes first_again.alike others_again.alike) body_again.alike))
+      (alike_said (ix_head (cond_in first).left) (ix_head (cond_in first_again.text.derivation).left) says_is.Guard {xs = first_new ++ others_new ++ body_new} refl
+      (alike_append {xs = first_new ++ others_new} {ys = body_new} (alike_append first_again.alike others_again.alike) body_again.alike))
 
   -- ---- the parts of a body
 
-  pub part_written : (d : Derivation Token part) → Leaves (IsLeaf texts) part d → Kept (part_notes scope (part_in d)) → (at : ℕ)
-      → Holds written at (part_words printed vars (part_of texts names scope (part_in d)))
-      → IsWritten texts written part part_in (part_of written names again) (part_notes again) (part_of texts names scope (part_in d))
-      (part_words printed vars (part_of texts names scope (part_in d))) (part_notes scope (part_in d)) at
+  pub part_written : AreWritten texts written (IsKept texts notes) part part_in (part_of texts names scope) (part_of written names again) (part_notes scope) (part_notes again) (part_words printed vars)
   unfolding Leaves part part_in
   part_written (inl x) leaves kept at holds =
       let is = assign_written x leaves kept at holds in
-      written_by refl (on_left (as_text is)) (ap part_is.Assign is.means) is.alike
+      written_by refl (on_left is.text) (ap part_is.Assign is.means) is.alike
   part_written (inr x) leaves kept at holds =
       let is = guard_written x leaves kept at holds in
-      written_by refl (on_right (as_text is)) (ap part_is.Branch is.means) is.alike
+      written_by refl (on_right is.text) (ap part_is.Branch is.means) is.alike

@@ -31,7 +31,7 @@ use Rattle.spf_kernel.proofs.Spelling.{holds_both}
 use Rattle.spf_kernel.proofs.TermEquations.{step_monos}
 use Rattle.spf_kernel.proofs.Told.{Told, told}
 use Rattle.spf_kernel.proofs.Written.{Holds, shown}
-use Rattle.spf_kernel.proofs.WrittenInside.{IsWrittenInside, IsMono, AreSteps, total_of, monomials_both, one_more_step, more_counted, sum_written, made_of, made_notes, made_term}
+use Rattle.spf_kernel.proofs.WrittenInside.{IsWrittenInside, told_as, IsMono, AreSteps, total_of, monomials_both, one_more_step, more_counted, sum_written, made_of, made_notes, made_term}
 use Rattle.spf_kernel.proofs.WrittenNumbers.{further_written, only_written}
 
 module _ (texts written : List (List ℕ)) (names : Names) (vars : List (List ℕ)) (scope again : Scope) (spot : Spot) (a : Grammar Kind) (atom_in : Derivation Token a → RawAtom) where
@@ -104,7 +104,7 @@ module _ (texts written : List (List ℕ)) (names : Names) (vars : List (List �
   behind_written tail number count [] each extra fits at =
       let here : at + length {A = List ℕ} [] ≡ at = omega arith in
       λ holds behind.
-      more_counted written names again spot a atom_in tail [] number [] count (count_that is_monomial [] + extra) at (omega (arith, fits))
+      more_counted (omega (arith, fits))
       (subst (λ n. AreSteps written names again spot a atom_in tail [] number [] count n) here behind)
   behind_written tail number count (step ∷ steps) each extra fits at = by each.0 fits (λ k within there. behind_written tail number count steps each.1 k within there) where
     rest : List Mono
@@ -125,8 +125,7 @@ module _ (texts written : List (List ℕ)) (names : Names) (vars : List (List �
         let moved : AreRead tail number (told texts (all_notes (step ∷ steps))) count all at (all_monos (step ∷ steps)) =
         subst (AreRead tail number (told texts (all_notes (step ∷ steps))) count all at) same_monos
         (subst (λ (tellings : List Told). AreRead tail number tellings count all at rest) same_told others) in
-        λ holds behind. more_counted written names again spot a atom_in (further_words (all_monos (step ∷ steps)) ++ tail) (all_monos (step ∷ steps)) number (told texts (all_notes (step ∷ steps))) all
-        (count_that is_monomial (all_notes (step ∷ steps)) + extra) at (omega (arith, monomials_both (step_notes spot scope step) notes, alone.counts)) (moved holds behind)
+        λ holds behind. more_counted (omega (arith, monomials_both (step_notes spot scope step) notes, alone.counts)) (moved holds behind)
     by (inr one) fits further =
         let given = one.given in
         let words = words_of_mono given in
@@ -140,9 +139,7 @@ module _ (texts written : List (List ℕ)) (names : Names) (vars : List (List �
         let end : at + length (here ++ more) ≡ at + 1 + length words + length more = omega (arith, length-append here more) in
         let others = further extra (omega (arith, fits)) (at + 1 + length words) (subst (λ n. Holds written n more) there parts.1)
         (subst (λ n. AreSteps written names again spot a atom_in tail [] number [] count n) end behind) in
-        let whole = one_more_step written names again spot a atom_in (is_negative given.coef) words (given ∷ []) (pos 0) (told texts (step_notes spot scope step)) (monomials step.mono)
-        (more ++ tail) rest number (told texts notes) (count_that is_monomial notes + extra) all at number (one.reads (at + 1) parts.0.1) others (omega (arith, ints))
-        (omega (arith, monomials_both (step_notes spot scope step) notes)) in
+        let whole = one_more_step all at (one.reads (at + 1) parts.0.1) others (omega (arith, ints)) (omega (arith, monomials_both (step_notes spot scope step) notes)) in
         subst (λ (tellings : List Told). AreSteps written names again spot a atom_in ((here ++ more) ++ tail) (given ∷ rest) number tellings all at) (sym (told_append texts (step_notes spot scope step) notes))
         (subst (λ (all_words : List (List ℕ)). AreSteps written names again spot a atom_in all_words (given ∷ rest) number (told texts (step_notes spot scope step) ++ told texts notes) all at)
         (sym (append_assoc here more tail)) whole))
@@ -197,11 +194,8 @@ module _ (texts written : List (List ℕ)) (names : Names) (vars : List (List �
         let behind = behind_written constant (signed (is_negative c) (unsigned_abs c)) (few + alones steps each.1) steps each.1 few (omega arith) (at + length (lead ++ words)) middle.1 tail in
         let told_all : told texts all ≡ told texts here ++ told texts notes =
         told_append texts seen (here ++ notes) ∙ (ap (λ (tellings : List Told). tellings ++ told texts (here ++ notes)) untold ∙ told_append texts here notes) in
-        let part = roll-Term (record { monos = given ∷ rest; constant = c }) in
-        subst (λ (all_words : List (List ℕ)). IsWrittenInside texts written (sum_of (mono_of a)) (sum_in a atom_in) (term_of written names again) (ix_notes spot again) part all_words all at)
-        (sym (append_assoc (lead ++ words) more constant))
-        (sum_written written names again spot a atom_in texts all minus words (given ∷ []) (pos 0) (told texts here) (monomials step.mono) (more ++ constant) rest (signed (is_negative c) (unsigned_abs c))
-        (told texts notes) (count_that is_monomial notes + few) at c part (one.reads (at + length lead) first.1) behind (omega (arith, ints, signed_back c))
+        told_as refl (sym (append_assoc (lead ++ words) more constant)) refl
+        (sum_written texts all at (one.reads (at + length lead) first.1) behind (omega (arith, ints, signed_back c))
         (λ i. roll-Term (record { monos = given ∷ rest; constant = sym wrapped i })) (sym told_all) (omega (arith, monomials_both seen (here ++ notes), monomials_both here notes))))
 
   -- a sum of such monomials is written again
@@ -221,8 +215,4 @@ module _ (texts written : List (List ℕ)) (names : Names) (vars : List (List �
       let within = total_within others each (alone_of (is_some lead) first) (ones (is_some lead) first source) (one_within (is_some lead) first source) in
       let words = printed ∙ ap (term_words (shown names) vars) same in
       let sum = from_steps (wrap total) (wrap_twice total) steps (source, each) [] refl (omega (arith, within, wrap_no_larger total)) (omega arith) at (subst (Holds written at) (sym words) holds) in
-      let g = sum_of (mono_of a) in
-      let by_words = subst (λ (all : List (List ℕ)). IsWrittenInside texts written g (sum_in a atom_in) (term_of written names again) (ix_notes spot again) part all (all_notes steps) at) words sum in
-      let by_term = subst (λ (x : Term). IsWrittenInside texts written g (sum_in a atom_in) (term_of written names again) (ix_notes spot again) x (term_words (shown names) vars (term_of texts names scope raw)) (all_notes steps) at) same by_words in
-      subst (λ (notes : List Note). IsWrittenInside texts written g (sum_in a atom_in) (term_of written names again) (ix_notes spot again) (term_of texts names scope raw)
-      (term_words (shown names) vars (term_of texts names scope raw)) notes at) (sym (made_notes spot scope lead first others)) by_term
+      told_as same words (sym (made_notes spot scope lead first others)) sum

@@ -1,10 +1,8 @@
 -- The printed words of an index expression, as tokens of the printed text, mean it again.
-use Rattle.std.proofs.Common.{◌≡◌, ℕ, zero, suc, ◌+◌, true, false, List, [], ◌∷◌, ◌++◌, length, Option, None, Some, is_some, refl, ap, sym, ◌∙◌, subst, arith, inl, inr, codes}
-use Rattle.std.specs.List.{AllByRecursion}
-use Rattle.spf_lex.specs.Grammar.{Grammar, Nothing, One, Then, optional}
-use Rattle.spf_lex.specs.Derivation.{Derivation, Spells}
-use Rattle.spf_lex.specs.Tokens.{IsTokenText}
-use Rattle.spf_lex.proofs.Leaves.{Leaves, join_each}
+use Rattle.std.proofs.Common.{◌≡◌, ℕ, zero, suc, ◌+◌, true, false, List, [], ◌∷◌, ◌++◌, Option, None, Some, is_some, refl, ap, sym, ◌∙◌, subst, arith, inl, inr, codes}
+use Rattle.spf_lex.specs.Grammar.{Grammar, One, Then, optional}
+use Rattle.spf_lex.specs.Derivation.{Derivation}
+use Rattle.spf_lex.proofs.Leaves.{Leaves}
 use Rattle.spf_term.specs.declared.term.Atom.{Atom}
 use Rattle.spf_term.specs.declared.term.Atom.TheVariants as atom_is
 use Rattle.spf_kernel.specs.declared.kind.Kind.{Kind}
@@ -16,25 +14,26 @@ use Rattle.spf_kernel.specs.declared.note.Spot.{Spot}
 use Rattle.spf_kernel.specs.declared.note.Scope.{Scope}
 use Rattle.spf_kernel.specs.declared.raw.RawIx.{RawIx, out-RawIx}
 use Rattle.spf_kernel.specs.declared.raw.RawAtom.{RawAtom, roll-RawAtom, out-roll-RawAtom}
-use Rattle.spf_kernel.specs.IsKernel.{kind_of}
 use Rattle.spf_kernel.specs.KernelGrammar.{atom, ix, bracketed, sum_of, mono_of}
 use Rattle.spf_kernel.specs.Names.{Names, names_of}
 use Rattle.spf_kernel.specs.Notes.{note, mono_head, ix_notes, atom_notes, expression_notes}
 use Rattle.spf_kernel.specs.Printed.{atom_words, term_words}
 use Rattle.spf_kernel.specs.RawTree.{at_name_in, atom_in, sum_in, ix_in}
 use Rattle.spf_kernel.specs.Resolved.{term_of, atom_of}
-use Rattle.spf_kernel.specs.Rules.{takes_data, text_of, is_monomial, count_that}
-use Rattle.spf_kernel.specs.Token.{token_of, numbered}
+use Rattle.spf_kernel.specs.Rules.{takes_data, text_of, is_monomial}
+use Rattle.spf_kernel.specs.Token.{token_of}
 use Rattle.spf_kernel.proofs.Alike.{alike_inner, alike_said, inner_notes}
 use Rattle.spf_kernel.proofs.Counting.{first_more}
-use Rattle.spf_kernel.proofs.FixedWords.{open_bracket_word, close_bracket_word, name_fixed}
+use Rattle.spf_kernel.proofs.FixedWords.{name_fixed}
 use Rattle.spf_kernel.proofs.NoteEquations.{at_notes, atom_notes_are}
-use Rattle.spf_kernel.proofs.Spelling.{one_spelled, nothing_spelled, left_spelled, right_spelled, then_spelled, word_then_spelled, text_here, holds_both}
+use Rattle.spf_kernel.proofs.SpelledParts.{no_words, word_alone, behind_word, on_left, on_right, in_brackets}
+use Rattle.spf_kernel.proofs.Spelling.{text_here, holds_both}
 use Rattle.spf_kernel.proofs.TermEquations.{atom_at, atom_is_at}
-use Rattle.spf_kernel.proofs.Told.{IsKept, IsSmall, told}
-use Rattle.spf_kernel.proofs.Written.{Holds, IsNameText, IsLeaf, IsScoped, IsWritten, shown}
-use Rattle.spf_kernel.proofs.WrittenInside.{IsWrittenInside}
+use Rattle.spf_kernel.proofs.Told.{IsKept, AreKept}
+use Rattle.spf_kernel.proofs.Written.{IsText, Holds, IsLeaf, IsScoped, shown, AreWritten}
+use Rattle.spf_kernel.proofs.WrittenInside.{IsWrittenInside, told_as, AreWrittenInside}
 use Rattle.spf_kernel.proofs.WrittenMonos.{sum_read}
+use Rattle.spf_kernel.proofs.WrittenParts.{name_written}
 use Rattle.spf_kernel.proofs.WrittenNames.{bare_shown, bare_means, table_shown, table_means, use_told}
 
 -- ---- a name, with what stands in the brackets behind it
@@ -66,110 +65,87 @@ module _ (texts written : List (List ℕ)) (notes : List Note) (vars : List (Lis
         IsWrittenInside texts written g raw_of (atom_of written names again) (atom_notes spot again) (atom_of texts names scope x) (words_of_atom (atom_of texts names scope x)) (atom_notes spot scope x) at
 
     -- a name without brackets
-    bare_again : (g : Grammar Kind) (raw_of : Derivation Token g → RawAtom) (name : Token) → IsNameText (text_of texts name) → AllByRecursion (IsKept texts notes) (atom_notes spot scope (named_at name None)) → (at : ℕ)
-        → (d : Derivation Token g) → raw_of d ≡ named_at (token_of at (text_of texts name)) None → Spells kind_of g (numbered at (text_of texts name ∷ [])) d
+    bare_again : (g : Grammar Kind) (raw_of : Derivation Token g → RawAtom) (name : Token) → AreKept texts notes (atom_notes spot scope (named_at name None)) → (at : ℕ)
+        → (text : IsText g (text_of texts name ∷ []) at) → raw_of text.derivation ≡ named_at (token_of at (text_of texts name)) None
         → Holds written at (words_of_atom (atom_of texts names scope (named_at name None))) → IsAtomAgain g raw_of (named_at name None) at
-    bare_again g raw_of name is_name kept at d is spells holds =
+    bare_again g raw_of name kept at text is holds =
         let word = text_of texts name in
         let other = token_of at word in
         let meant = named_means texts names scope name None in
         let noted = named_notes spot scope name None in
-        let noted_again : atom_notes spot again (raw_of d) ≡ note other (Used false spot again) ∷ [] = ap (atom_notes spot again) is ∙ named_notes spot again other None in
-        let uses = subst (AllByRecursion (IsKept texts notes)) noted kept in
+        let noted_again : atom_notes spot again (raw_of text.derivation) ≡ note other (Used false spot again) ∷ [] = ap (atom_notes spot again) is ∙ named_notes spot again other None in
+        let uses = subst (AreKept texts notes) noted kept in
         let words : words_of_atom (atom_of texts names scope (named_at name None)) ≡ word ∷ [] = ap words_of_atom meant ∙ bare_shown texts written notes vars scope again scoped spot name uses.0.fits in
         let here = subst (Holds written at) words holds in
         let same = text_here written at word here.0 in
-        record {
-          derivation = d;
-          spells = subst (λ (all : List (List ℕ)). Spells kind_of g (numbered at all) d) (sym words) spells;
-          means = ap (atom_of written names again) is ∙ (named_means written names again other None ∙ (bare_means texts written notes vars scope again scoped name other same ∙ sym meant));
-          same = ap (told written) noted_again ∙ ((λ i. use_told texts written notes vars scope again scoped false spot name other same i ++ []) ∙ ap (told texts) (sym noted));
-          small = subst (AllByRecursion IsSmall) (sym noted_again) (tt, tt);
-          few = rw (noted_again, noted) (omega arith);
-          legible = subst (AllByRecursion IsTokenText) (sym words) (is_name.token, tt);
-        }
+        told_as (sym meant) (sym words) (sym noted) (record {
+          text = text;
+          means = ap (atom_of written names again) is ∙ (named_means written names again other None ∙ bare_means texts written notes vars scope again scoped name other same);
+          inside = rw noted_again (record { same = λ i. use_told texts written notes vars scope again scoped false spot name other same i ++ []; small = (tt, tt); few = omega arith });
+        })
 
     -- a name with brackets, and the sum inside them
-    entry_again : (g : Grammar Kind) (make : Derivation Token g → RawIx) (name : Token) → IsNameText (text_of texts name) → (index : RawIx) → AllByRecursion (IsKept texts notes) (atom_notes spot scope (named_at name (Some index)))
+    entry_again : (g : Grammar Kind) (make : Derivation Token g → RawIx) (name : Token) → IsLeaf texts kind.Name name → (index : RawIx) → AreKept texts notes (atom_notes spot scope (named_at name (Some index)))
         → (at : ℕ)
         → (Holds written (at + 1 + 1) (term_words (shown names) vars (term_of texts names scope index))
         → IsWrittenInside texts written g make (term_of written names again) (ix_notes spot again) (term_of texts names scope index) (term_words (shown names) vars (term_of texts names scope index)) (ix_notes spot scope index) (at + 1 + 1))
         → Holds written at (words_of_atom (atom_of texts names scope (named_at name (Some index))))
         → IsAtomAgain (Then (One kind.Name) (optional (bracketed g))) (λ d. at_name_in g make d.0 d.1) (named_at name (Some index)) at
-    entry_again g make name is_name index kept at read holds =
+    entry_again g make name leaf index kept at read holds =
         let word = text_of texts name in
         let inside = term_words (shown names) vars (term_of texts names scope index) in
         let other = token_of at word in
         let meant = named_means texts names scope name (Some index) in
         let noted = named_notes spot scope name (Some index) in
-        let uses = subst (AllByRecursion (IsKept texts notes)) noted kept in
+        let uses = subst (AreKept texts notes) noted kept in
         let words : words_of_atom (atom_of texts names scope (named_at name (Some index))) ≡ word ∷ codes "[" ∷ inside ++ codes "]" ∷ [] =
         ap words_of_atom meant ∙ ap (λ (first : List ℕ). first ∷ codes "[" ∷ inside ++ codes "]" ∷ []) (table_shown texts written notes vars scope again scoped spot no_data name uses.0.fits) in
         let here = subst (Holds written at) words holds in
         let parts = holds_both written (at + 1 + 1) inside (codes "]" ∷ []) here.1.1 in
-        let same = text_here written at word here.0 in
+        let is = name_written texts written name word at leaf refl here.0 in
         let found = read parts.0 in
-        let opened = token_of (at + 1) (codes "[") in
-        let closed = token_of (at + 1 + 1 + length inside) (codes "]") in
-        let raw = make found.derivation in
-        let noted_again = named_notes spot again other (Some raw) in
-        let count_again : count_that is_monomial (atom_notes spot again (named_at other (Some raw))) ≡ count_that is_monomial (ix_notes spot again raw) =
-        ap (count_that is_monomial) noted_again ∙ first_more is_monomial (note other (Used true spot again)) (ix_notes spot again raw) in
-        let count : count_that is_monomial (atom_notes spot scope (named_at name (Some index))) ≡ count_that is_monomial (ix_notes spot scope index) =
-        ap (count_that is_monomial) noted ∙ first_more is_monomial (note name (Used true spot scope)) (ix_notes spot scope index) in
-        record {
-          derivation = (other, inl (opened, (found.derivation, closed)));
-          spells = subst (λ (all : List (List ℕ)). Spells kind_of (Then (One kind.Name) (optional (bracketed g))) (numbered at all) (other, inl (opened, (found.derivation, closed)))) (sym words)
-              (word_then_spelled kind.Name (optional (bracketed g)) at word (codes "[" ∷ inside ++ codes "]" ∷ []) (inl (opened, (found.derivation, closed))) ((name_fixed word is_name).is at)
-              (left_spelled (bracketed g) Nothing (numbered (at + 1) (codes "[" ∷ inside ++ codes "]" ∷ [])) (opened, (found.derivation, closed))
-              (word_then_spelled kind.OpenBracket (Then g (One kind.CloseBracket)) (at + 1) (codes "[") (inside ++ codes "]" ∷ []) (found.derivation, closed) (open_bracket_word.is (at + 1))
-              (then_spelled g (One kind.CloseBracket) (at + 1 + 1) inside (codes "]" ∷ []) found.derivation closed found.spells
-              (one_spelled kind.CloseBracket (at + 1 + 1 + length inside) (codes "]") (close_bracket_word.is (at + 1 + 1 + length inside)))))));
-          means = named_means written names again other (Some raw) ∙ ((λ i. atom_is.App (table_means texts written notes vars scope again scoped name other same i) (found.means i)) ∙ sym meant);
-          same = ap (told written) noted_again ∙ ((λ i. use_told texts written notes vars scope again scoped true spot name other same i ++ found.same i) ∙ ap (told texts) (sym noted));
-          small = subst (AllByRecursion IsSmall) (sym noted_again) (tt, found.small);
-          few = omega (arith, count_again, count, found.few);
-          legible = subst (AllByRecursion IsTokenText) (sym words) (is_name.token, (open_bracket_word.token, join_each IsTokenText inside (codes "]" ∷ []) found.legible (close_bracket_word.token, tt)));
-        }
+        let raw = make found.text.derivation in
+        told_as (sym meant) (sym words) (sym noted) (record {
+          text = behind_word at is.fixed (on_left (in_brackets (at + 1) found.text));
+          means = named_means written names again other (Some raw) ∙ (λ i. atom_is.App (table_means texts written notes vars scope again scoped name other is.same i) (found.means i));
+          inside = rw (named_notes spot again other (Some raw)) (record {
+            same = λ i. use_told texts written notes vars scope again scoped true spot name other is.same i ++ found.inside.same i;
+            small = (tt, found.inside.small);
+            few = omega (
+              arith,
+              found.inside.few,
+              first_more is_monomial (note other (Used true spot again)) (ix_notes spot again raw),
+              first_more is_monomial (note name (Used true spot scope)) (ix_notes spot scope index),
+            );
+          });
+        })
 
     -- by induction on how deep brackets may still stand
-    atom_written : (depth : ℕ) (d : Derivation Token (atom depth)) → Leaves (IsLeaf texts) (atom depth) d → AllByRecursion (IsKept texts notes) (atom_notes spot scope (atom_in depth d)) → (at : ℕ)
-        → Holds written at (words_of_atom (atom_of texts names scope (atom_in depth d))) → IsAtomAgain (atom depth) (atom_in depth) (atom_in depth d) at
+    atom_written : (depth : ℕ) → AreWrittenInside texts written (IsKept texts notes) (atom depth) (atom_in depth) (atom_of texts names scope) (atom_of written names again) (atom_notes spot scope) (atom_notes spot again) words_of_atom
     unfolding Leaves atom atom_in
     atom_written zero name leaves kept at holds =
-        let word = text_of texts name in
-        let is_name = leaves.name refl in
-        bare_again (One kind.Name) (atom_in zero) name is_name kept at (token_of at word) refl (one_spelled kind.Name at word ((name_fixed word is_name).is at)) holds
+        bare_again (One kind.Name) (atom_in zero) name kept at (word_alone at (name_fixed (text_of texts name) (leaves.name refl))) refl holds
     atom_written (suc depth) (name, inr none) leaves kept at holds =
-        let word = text_of texts name in
-        let is_name = leaves.0.name refl in
-        let g = sum_of (mono_of (atom depth)) in
-        bare_again (Then (One kind.Name) (optional (bracketed g))) (atom_in (suc depth)) name is_name kept at (token_of at word, inr tt) refl
-        (word_then_spelled kind.Name (optional (bracketed g)) at word [] (inr tt) ((name_fixed word is_name).is at)
-        (right_spelled (bracketed g) Nothing (numbered (at + 1) []) tt (nothing_spelled (at + 1)))) holds
+        bare_again (atom (suc depth)) (atom_in (suc depth)) name kept at (behind_word at (name_fixed (text_of texts name) (leaves.0.name refl)) (on_right (no_words (at + 1)))) refl holds
     atom_written (suc depth) (name, inl (opened, (x, closed))) leaves kept at holds =
         let raw = sum_in (atom depth) (atom_in depth) x in
-        let inside = (subst (AllByRecursion (IsKept texts notes)) (named_notes spot scope name (Some raw)) kept).1 in
-        entry_again (sum_of (mono_of (atom depth))) (sum_in (atom depth) (atom_in depth)) name (leaves.0.name refl) raw kept at
+        let inside = (subst (AreKept texts notes) (named_notes spot scope name (Some raw)) kept).1 in
+        entry_again (sum_of (mono_of (atom depth))) (sum_in (atom depth) (atom_in depth)) name leaves.0 raw kept at
         (sum_read texts written names vars scope again spot (atom depth) (atom_in depth) notes (atom_written depth) x leaves.1.1.0 inside (at + 1 + 1)) holds
 
 -- an index expression is written again: its notes are alike, since they tell the same and are of no more monomials
-pub ix_written : (texts written : List (List ℕ)) (notes : List Note) (vars : List (List ℕ)) (scope again : Scope) → IsScoped texts written vars scope again → (spot : Spot) → takes_data texts spot ≡ false → (depth : ℕ) (d : Derivation Token (ix depth))
-    → Leaves (IsLeaf texts) (ix depth) d → AllByRecursion (IsKept texts notes) (expression_notes spot scope (ix_in depth d)) → (at : ℕ)
-    → Holds written at (term_words (shown (names_of texts notes)) vars (term_of texts (names_of texts notes) scope (ix_in depth d)))
-    → IsWritten texts written (ix depth) (ix_in depth) (term_of written (names_of texts notes) again) (expression_notes spot again) (term_of texts (names_of texts notes) scope (ix_in depth d))
-    (term_words (shown (names_of texts notes)) vars (term_of texts (names_of texts notes) scope (ix_in depth d))) (expression_notes spot scope (ix_in depth d)) at
+pub ix_written : (texts written : List (List ℕ)) (notes : List Note) (vars : List (List ℕ)) (scope again : Scope) → IsScoped texts written vars scope again → (spot : Spot) → takes_data texts spot ≡ false → (depth : ℕ)
+    → AreWritten texts written (IsKept texts notes) (ix depth) (ix_in depth) (term_of texts (names_of texts notes) scope) (term_of written (names_of texts notes) again) (expression_notes spot scope) (expression_notes spot again)
+    (term_words (shown (names_of texts notes)) vars)
 unfolding ix ix_in
 ix_written texts written notes vars scope again scoped spot no_data depth d leaves kept at holds =
     let names = names_of texts notes in
     let raw = sum_in (atom depth) (atom_in depth) d in
     let found = sum_read texts written names vars scope again spot (atom depth) (atom_in depth) notes (atom_written texts written notes vars scope again scoped spot no_data depth) d leaves kept.1 at holds in
-    let new = sum_in (atom depth) (atom_in depth) found.derivation in
+    let new = sum_in (atom depth) (atom_in depth) found.text.derivation in
     record {
-      derivation = found.derivation;
-      spells = found.spells;
+      text = found.text;
       means = found.means;
-      alike = alike_said texts written (mono_head (out-RawIx raw).first) (mono_head (out-RawIx new).first) Expression (ix_notes spot again new) (ix_notes spot scope raw) refl
-          (alike_inner texts written spot (ix_notes spot again new) (ix_notes spot scope raw) (inner_notes spot again new) (inner_notes spot scope raw) found.same found.small found.few);
-      legible = found.legible;
+      alike = alike_said (mono_head (out-RawIx raw).first) (mono_head (out-RawIx new).first) Expression refl
+          (alike_inner texts written spot (ix_notes spot again new) (ix_notes spot scope raw) (inner_notes spot again new) (inner_notes spot scope raw) found.inside.same found.inside.small found.inside.few);
     }

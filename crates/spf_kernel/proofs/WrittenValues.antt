@@ -1,12 +1,9 @@
 -- Values are written again: the words that a value is printed as are read as the same value.
-use Rattle.std.proofs.Common.{ℕ, zero, suc, ◌+◌, List, [], ◌∷◌, ◌++◌, length, codes, ap, sym, ◌∙◌, subst, inl, inr}
-use Rattle.std.specs.List.{AllByRecursion}
-use Rattle.spf_lex.specs.Grammar.{Grammar, One, Then, Or}
+use Rattle.std.proofs.Common.{ℕ, zero, suc, ◌+◌, List, [], ◌∷◌, codes, ap, sym, ◌∙◌, subst, inl, inr}
+use Rattle.spf_lex.specs.Grammar.{Grammar, Or}
 use Rattle.spf_lex.specs.Derivation.{Derivation}
-use Rattle.spf_lex.specs.Tokens.{IsTokenText}
-use Rattle.spf_lex.proofs.Leaves.{Leaves, join_each}
+use Rattle.spf_lex.proofs.Leaves.{Leaves}
 use Rattle.spf_kernel.specs.declared.kind.Kind.{Kind}
-use Rattle.spf_kernel.specs.declared.kind.Kind.TheVariants as kind
 use Rattle.spf_kernel.specs.declared.token.Token.{Token}
 use Rattle.spf_kernel.specs.declared.note.Note.{Note}
 use Rattle.spf_kernel.specs.declared.note.Scope.{Scope}
@@ -17,19 +14,18 @@ use Rattle.spf_kernel.specs.declared.tree.Value.{Value}
 use Rattle.spf_kernel.specs.declared.tree.Factor.TheVariants as factor
 use Rattle.spf_kernel.specs.KernelGrammar.{numeral, atom, parenthesized, sum_of, prod_of, fact, value}
 use Rattle.spf_kernel.specs.Names.{Names, names_of}
-use Rattle.spf_kernel.specs.Notes.{value_notes}
 use Rattle.spf_kernel.specs.Printed.{fact_words, value_words}
 use Rattle.spf_kernel.specs.RawTree.{value_sum_in, fact_in, value_in}
 use Rattle.spf_kernel.specs.Resolved.{value_of}
-use Rattle.spf_kernel.specs.Token.{token_of}
-use Rattle.spf_kernel.proofs.FixedWords.{open_parenthesis_word, close_parenthesis_word}
 use Rattle.spf_kernel.proofs.NoteEquations.{paren_notes_are}
-use Rattle.spf_kernel.proofs.Spelling.{holds_both, one_spelled, left_spelled, right_spelled, then_spelled, word_then_spelled}
-use Rattle.spf_kernel.proofs.Told.{Alike, IsKept}
+use Rattle.spf_kernel.proofs.SpelledParts.{on_left, on_right, in_parentheses}
+use Rattle.spf_kernel.proofs.Spelling.{holds_both}
+use Rattle.spf_kernel.proofs.Told.{AreKept}
 use Rattle.spf_kernel.proofs.ValueEquations.{paren_is}
-use Rattle.spf_kernel.proofs.Written.{IsLeaf, IsScoped, IsWritten, Holds, shown}
-use Rattle.spf_kernel.proofs.WrittenFactors.{AreWrittenFactors, AreWrittenValues, number_written, name_written}
-use Rattle.spf_kernel.proofs.WrittenProducts.{told_as, sum_written}
+use Rattle.spf_kernel.proofs.Written.{IsScoped, Holds, shown}
+use Rattle.spf_kernel.proofs.WrittenFactors.{AreWrittenFactors, AreWrittenValues, number_factor_written, name_factor_written}
+use Rattle.spf_kernel.proofs.WrittenParts.{written_by}
+use Rattle.spf_kernel.proofs.WrittenProducts.{sum_written}
 
 module _ (texts written : List (List ℕ)) (notes : List Note) (vars : List (List ℕ)) (scope again : Scope) where
   abbrev names : Names
@@ -43,10 +39,10 @@ module _ (texts written : List (List ℕ)) (notes : List Note) (vars : List (Lis
   unfolding Leaves
   either_written g h raw_of left right (inl d) leaves kept at holds =
       let is = left d leaves kept at holds in
-      record { derivation = inl is.derivation; spells = left_spelled g h _ is.derivation is.spells; means = is.means; alike = is.alike; legible = is.legible }
+      record { text = on_left is.text; means = is.means; alike = is.alike }
   either_written g h raw_of left right (inr d) leaves kept at holds =
       let is = right d leaves kept at holds in
-      record { derivation = inr is.derivation; spells = right_spelled g h _ is.derivation is.spells; means = is.means; alike = is.alike; legible = is.legible }
+      record { text = on_right is.text; means = is.means; alike = is.alike }
 
   -- a value in parentheses
   paren_written : (v : Grammar Kind) (make : Derivation Token v → RawValue) → AreWrittenValues texts written notes vars scope again v make → IsWrittenFactor (parenthesized v) (λ d. Paren (make d.1.0))
@@ -58,32 +54,24 @@ module _ (texts written : List (List ℕ)) (notes : List Note) (vars : List (Lis
       let words = ap (fact_words (shown names) vars) same in
       let notes_are = paren_notes_are scope (make x) in
       let there = subst (Holds written at) words holds in
-      let is = one x leaves.1.0 (subst (AllByRecursion (IsKept texts notes)) notes_are kept) (at + 1) (holds_both written (at + 1) inside (codes ")" ∷ []) there.1).0 in
-      let behind = at + 1 + length inside in
-      told_as (sym same) (sym words) (sym notes_are) (record {
-        derivation = (token_of at (codes "("), (is.derivation, token_of behind (codes ")")));
-        spells = word_then_spelled kind.OpenParenthesis (Then v (One kind.CloseParenthesis)) at (codes "(") (inside ++ codes ")" ∷ []) (is.derivation, token_of behind (codes ")")) (open_parenthesis_word.is at)
-            (then_spelled v (One kind.CloseParenthesis) (at + 1) inside (codes ")" ∷ []) is.derivation (token_of behind (codes ")")) is.spells (one_spelled kind.CloseParenthesis behind (codes ")") (close_parenthesis_word.is behind)));
-        means = paren_is written names again (make is.derivation) ∙ ap (λ (inside : Value). factor.Paren inside) is.means;
-        alike = subst (Alike texts written (value_notes scope (make x))) (sym (paren_notes_are again (make is.derivation))) is.alike;
-        legible = (open_parenthesis_word.token, join_each IsTokenText inside (codes ")" ∷ []) is.legible (close_parenthesis_word.token, tt));
-      })
+      let is = one x leaves.1.0 (subst (AreKept texts notes) notes_are kept) (at + 1) (holds_both written (at + 1) inside (codes ")" ∷ []) there.1).0 in
+      written_by words (in_parentheses at is.text)
+      (paren_is written names again (make is.text.derivation) ∙ (ap (λ (inside : Value). factor.Paren inside) is.means ∙ sym same))
+      (rw (notes_are, paren_notes_are again (make is.text.derivation)) is.alike)
 
   module _ (scoped : IsScoped texts written vars scope again) where
     fact_written : (depth : ℕ) → IsWrittenFactor (fact depth) (fact_in depth)
     unfolding fact fact_in
     fact_written zero =
-        either_written numeral (atom 5) (fact_in zero) (number_written texts written notes vars scope again) (name_written texts written notes vars scope again scoped)
+        either_written numeral (atom 5) (fact_in zero) (number_factor_written texts written notes vars scope again) (name_factor_written texts written notes vars scope again scoped)
     fact_written (suc depth) =
         let nested = sum_of (prod_of (fact depth)) in
         let inside = sum_written texts written notes vars scope again (fact depth) (fact_in depth) (fact_written depth) in
-        either_written numeral (Or (parenthesized nested) (atom 5)) (fact_in (suc depth)) (number_written texts written notes vars scope again)
-        (either_written (parenthesized nested) (atom 5) (λ x. fact_in (suc depth) (inr x)) (paren_written nested (value_sum_in (fact depth) (fact_in depth)) inside) (name_written texts written notes vars scope again scoped))
+        either_written numeral (Or (parenthesized nested) (atom 5)) (fact_in (suc depth)) (number_factor_written texts written notes vars scope again)
+        (either_written (parenthesized nested) (atom 5) (λ x. fact_in (suc depth) (inr x)) (paren_written nested (value_sum_in (fact depth) (fact_in depth)) inside) (name_factor_written texts written notes vars scope again scoped))
 
-pub value_written : (texts written : List (List ℕ)) (notes : List Note) (vars : List (List ℕ)) (scope again : Scope) → IsScoped texts written vars scope again → (d : Derivation Token value) → Leaves (IsLeaf texts) value d
-    → AllByRecursion (IsKept texts notes) (value_notes scope (value_in d)) → (at : ℕ) → Holds written at (value_words (shown (names_of texts notes)) vars (value_of texts (names_of texts notes) scope (value_in d)))
-    → IsWritten texts written value value_in (value_of written (names_of texts notes) again) (value_notes again) (value_of texts (names_of texts notes) scope (value_in d))
-    (value_words (shown (names_of texts notes)) vars (value_of texts (names_of texts notes) scope (value_in d))) (value_notes scope (value_in d)) at
+pub value_written : (texts written : List (List ℕ)) (notes : List Note) (vars : List (List ℕ)) (scope again : Scope) → IsScoped texts written vars scope again
+    → AreWrittenValues texts written notes vars scope again value value_in
 unfolding value value_in
 value_written texts written notes vars scope again scoped =
     sum_written texts written notes vars scope again (fact 8) (fact_in 8) (fact_written texts written notes vars scope again scoped 8)

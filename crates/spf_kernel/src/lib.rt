@@ -55,6 +55,7 @@ pub use fault::KernelFault;
 pub use found::one_kernel_stands;
 pub use kernel::{Kernel, one_answer, parse, print};
 pub use kind::Kind;
+pub use print_term::pieces_are_fewest;
 pub use raw_kernel::{names_are_words, one_raw_tree, read_kernel};
 pub use token::{Token, classify};
 

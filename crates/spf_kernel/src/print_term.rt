@@ -1,7 +1,7 @@
 //! Printing index expressions.
 
-ghost use Rattle.std.specs.Prelude.{◌≡◌, ◌++◌, flat_map, OnOk};
-ghost use Rattle.spf_kernel.specs.Printed.{atom_words, coefficient_words, further_mono, further_number, mono_words, only_number, term_words};
+ghost use Rattle.std.specs.Prelude.{ℕ, ◌≡◌, ◌≤◌, ◌<◌, ◌-◌, min, List, ◌∷◌, ◌++◌, length, flat_map, sum, All, OnOk};
+ghost use Rattle.spf_kernel.specs.Printed.{atom_words, coefficient_words, further_mono, further_number, limit, mono_words, only_number, pieces, term_words};
 
 use crate::print_list::{push_lead, push_sign};
 use crate::tree_names::{TreeNames, push_name_at};
@@ -9,6 +9,16 @@ use spf_base::{Name, NoMemory};
 use spf_lex::Words;
 use spf_term::{Atom, Mono, Term};
 use sqlite_items::Items;
+
+/// A law, which does nothing when it is called: the numbers that a constant is printed as are as few within the limit as can
+/// be. A constant behind monomials is printed as its pieces, and one that is alone too, unless it is zero.
+#[tactic(auto, using(crate::proofs::FewestPieces::sum_of_pieces, crate::proofs::FewestPieces::pieces_within, crate::proofs::FewestPieces::pieces_fewest, crate::proofs::FewestPieces::pieces_alone))]
+pub fn pieces_are_fewest()
+    ensures sum { (n : ℕ) → sum (pieces n) ≡ n }
+    ensures within { (n : ℕ) → All (λ piece. piece ≤ limit) (pieces n) }
+    ensures fewest { (numbers : List ℕ) → All (λ number. number ≤ limit) numbers → length (pieces (sum numbers)) ≤ length numbers }
+    ensures alone { (n : ℕ) → 0 < n → min n limit ∷ pieces (n - limit) ≡ pieces n }
+{}
 
 /// The largest number that a bundle may have in an index expression in front of no `*`.
 const LIMIT: u64 = 4_194_304;
