@@ -1,29 +1,21 @@
 -- The pieces of a number are as few numbers within the limit as can be whose sum it is.
-use Rattle.std.proofs.Common.{◌≡◌, ℕ, suc, ◌≤◌, ◌<◌, ◌+◌, ◌-◌, ◌*◌, ◌/◌, ◌%◌, ◌==◌, nat_lt, min, Bool, true, false, List, [], ◌∷◌, ◌++◌, length, replicate, All, refl, sym, ap, ◌∙◌, arith}
+use Rattle.std.proofs.Common.{◌≡◌, ℕ, suc, ◌≤◌, ◌<◌, ◌-◌, ◌*◌, ◌/◌, ◌%◌, ◌==◌, nat_lt, min, Bool, true, false, List, [], ◌∷◌, ◌++◌, length, replicate, All, refl, sym, ◌∙◌, arith}
 use Rattle.std.specs.Prelude.{if◌then◌else◌}
 use Rattle.std.specs.List.{sum, AllByRecursion}
 use Rattle.std.proofs.lemmas.Bool.Decides.{nat_tests}
 use Rattle.std.proofs.lemmas.List.Elements.{All-from_recursion, recursion_from_All}
-use Rattle.std.proofs.lemmas.List.Sums.{sum_by-cons}
 use Rattle.spf_kernel.specs.Printed.{limit, pieces}
-use Rattle.spf_kernel.proofs.PrintedConstants.{IsPiece, summed, pieces_sum, pieces_small, pieces_few}
-
-sum_is : (ns : List ℕ) → sum ns ≡ summed ns
-sum_is [] = refl
-sum_is (n ∷ ns) = sum_by-cons (λ (x : ℕ). x) n ns ∙ ap (λ k. n + k) (sum_is ns)
-
-pub sum_of_pieces : (n : ℕ) → sum (pieces n) ≡ n
-sum_of_pieces n = sum_is (pieces n) ∙ pieces_sum n
+use Rattle.spf_kernel.proofs.PrintedConstants.{IsPiece, first_sum, pieces_small, pieces_few}
 
 pub pieces_within : (n : ℕ) → All (λ piece. piece ≤ limit) (pieces n)
 pieces_within n = All-from_recursion IsPiece (pieces n) (pieces_small n)
 
-sum_within : (ns : List ℕ) → AllByRecursion IsPiece ns → summed ns ≤ length ns * limit
+sum_within : (ns : List ℕ) → AllByRecursion IsPiece ns → sum ns ≤ length ns * limit
 sum_within [] each = omega arith
-sum_within (n ∷ ns) each = omega (arith, each.0, sum_within ns each.1)
+sum_within (n ∷ ns) each = omega (arith, first_sum n ns, each.0, sum_within ns each.1)
 
 pub pieces_fewest : (ns : List ℕ) → All (λ number. number ≤ limit) ns → length (pieces (sum ns)) ≤ length ns
-pieces_fewest ns each = pieces_few (sum ns) (length ns) (rw (sum_is ns) (sum_within ns (recursion_from_All IsPiece ns each)))
+pieces_fewest ns each = pieces_few (sum ns) (length ns) (sum_within ns (recursion_from_All IsPiece ns each))
 
 -- so many of the largest pieces, and one of what is left
 abbrev parts : ℕ → ℕ → List ℕ

@@ -1,5 +1,6 @@
 -- The first breach of the notes, with one note more.
-use Rattle.std.proofs.Common.{◌≡◌, ℕ, ◌+◌, ◌<◌, ◌≤◌, ◌==◌, Bool, true, false, cond, List, [], ◌∷◌, ◌++◌, length, map, slice_get, Option, None, Some, refl, ap, sym, ◌∙◌, subst, position, nat_lt, ◌||◌, ◌&&◌, ◌⊎◌, inl, inr, ⊎_elim, append_assoc, length-append, arith}
+use Rattle.std.proofs.Common.{◌≡◌, ℕ, ◌+◌, ◌<◌, ◌≤◌, Bool, true, false, List, [], ◌∷◌, ◌++◌, length, map, slice_get, Option, None, Some, refl, ap, sym, ◌∙◌, subst, position, nat_lt, ◌⊎◌, inl, inr, ⊎_elim, append_assoc, length-append, arith}
+use Rattle.std.proofs.lemmas.Bool.{ltb-true, ltb-false}
 use Rattle.std.proofs.lemmas.Bool.Decides.{nat_tests}
 use Rattle.std.specs.Option.{option_map}
 use Rattle.spf_kernel.specs.declared.token.Token.{Token}
@@ -7,7 +8,7 @@ use Rattle.spf_kernel.specs.declared.note.Note.{Note}
 use Rattle.spf_kernel.specs.declared.note.Says.{Says}
 use Rattle.spf_kernel.specs.declared.rules.Breach.{Breach}
 use Rattle.spf_kernel.specs.Rules.{rules, has_capital, Breaks, IsFirstBreach, IsUnbroken}
-use Rattle.spf_kernel.specs.Checked.{least_rule, lesser, IsFirst}
+use Rattle.spf_kernel.specs.Checked.{least_rule, Precedes, IsFirst}
 use Rattle.spf_kernel.proofs.Places.{position-map, none_passes, first_passes}
 
 -- a split of a list with one element more is at that element, or a split of the list
@@ -29,11 +30,16 @@ splits (z ∷ zs) new (y ∷ ys) x after e =
     let tails : zs ++ new ∷ [] ≡ ys ++ x ∷ after = cc in
     further z y zs ys new x heads (splits zs new ys x after tails)
 
-comes_before : (place rule q s : ℕ) → nat_lt place q || (place == q && nat_lt rule s) ≡ true → (place < q) ⊎ ((place ≡ q) × (rule < s))
-comes_before place rule q s e = grind (arith, nat_tests)
+-- what doesn't come before stands at a place no less, and at the same place with a rule no less
+comes_behind : (a b : Breach) → ¬ Precedes a b → (b.place ≤ a.place) × (a.place ≡ b.place → b.rule ≤ a.rule)
+comes_behind a b behind = (by (nat_lt a.place b.place) refl, λ same. at_one_place same (nat_lt a.rule b.rule) refl) where
+  by : (t : Bool) → nat_lt a.place b.place ≡ t → b.place ≤ a.place
+  by true e = absurd (behind (inl (ltb-true a.place b.place e)))
+  by false e = ltb-false a.place b.place e
 
-comes_behind : (place rule q s : ℕ) → nat_lt place q || (place == q && nat_lt rule s) ≡ false → (q ≤ place) × (place ≡ q → s ≤ rule)
-comes_behind place rule q s e = (grind (arith, nat_tests), λ same. grind (arith, nat_tests))
+  at_one_place : a.place ≡ b.place → (t : Bool) → nat_lt a.rule b.rule ≡ t → b.rule ≤ a.rule
+  at_one_place same true e = absurd (behind (inr (same, ltb-true a.rule b.rule e)))
+  at_one_place same false e = ltb-false a.rule b.rule e
 
 module _ (texts : List (List ℕ)) where
   -- the note breaks the rule, behind those before
@@ -134,12 +140,11 @@ module _ (texts : List (List ℕ)) where
           least_rule = λ rule b. ⊎_elim (first.least_rule rule) (λ h. omega (arith, rule_before (sym h.0), here.1 rule h.1)) (breaks_either best.place rule b);
         }
 
-    pub first_of_two : (best : Breach) → IsFirstBreach texts notes best.place best.rule → (least : ℕ) → least_rule texts notes note ≡ Some least
-        → (c : Breach) → c ≡ lesser best (record { place = note.token.at; rule = least }) → IsFirstBreach texts (notes ++ note ∷ []) c.place c.rule
-    first_of_two best first least some c is = subst (λ (b : Breach). IsFirstBreach texts (notes ++ note ∷ []) b.place b.rule) (sym is)
-        (by (nat_lt note.token.at best.place || (note.token.at == best.place && nat_lt least best.rule)) refl)
-      where
-        by : (b : Bool) → nat_lt note.token.at best.place || (note.token.at == best.place && nat_lt least best.rule) ≡ b
-            → IsFirstBreach texts (notes ++ note ∷ []) (cond b (record { place = note.token.at; rule = least }) best).place (cond b (record { place = note.token.at; rule = least }) best).rule
-        by true e = new_first best first least some (comes_before note.token.at least best.place best.rule e)
-        by false e = old_first best first least some (comes_behind note.token.at least best.place best.rule e).0 (comes_behind note.token.at least best.place best.rule e).1
+    pub first_of_two : (best : Breach) → IsFirstBreach texts notes best.place best.rule → (least : ℕ) → least_rule texts notes note ≡ Some least → (c : Breach)
+        → ((c ≡ record { place = note.token.at; rule = least }) × Precedes (record { place = note.token.at; rule = least }) best) ⊎ ((c ≡ best) × ¬ Precedes (record { place = note.token.at; rule = least }) best)
+        → IsFirstBreach texts (notes ++ note ∷ []) c.place c.rule
+    first_of_two best first least some c (inl (is, before)) =
+        subst (λ (b : Breach). IsFirstBreach texts (notes ++ note ∷ []) b.place b.rule) (sym is) (new_first best first least some before)
+    first_of_two best first least some c (inr (is, behind)) =
+        let after = comes_behind (record { place = note.token.at; rule = least }) best behind in
+        subst (λ (b : Breach). IsFirstBreach texts (notes ++ note ∷ []) b.place b.rule) (sym is) (old_first best first least some after.0 after.1)

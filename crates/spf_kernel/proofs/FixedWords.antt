@@ -1,8 +1,9 @@
 -- The words that are printed the same each time are tokens of the kinds that the grammar quotes, and the text of a name is a name.
-use Rattle.std.proofs.Common.{◌≡◌, ℕ, ◌≤◌, Bool, true, false, ◌&&◌, nat_le, nat_lt, ◌<◌, List, [], ◌∷◌, length, get_or, Contains, refl, inl, inr, arith}
+use Rattle.std.proofs.Common.{◌≡◌, ℕ, Bool, true, false, ◌&&◌, nat_le, nat_lt, List, [], ◌∷◌, length, get_or, Contains, refl, inl, inr, arith}
 use Rattle.std.specs.Prelude.{codes}
 use Rattle.std.specs.List.{list_all}
 use Rattle.std.proofs.lemmas.Bool.{and_parts}
+use Rattle.std.proofs.lemmas.Bool.{leb-true, ltb-true}
 use Rattle.std.proofs.lemmas.Bool.Decides.{nat_tests}
 use Rattle.std.proofs.lemmas.List.Sums.{AllPass-from_list_all}
 use Rattle.spf_base.specs.Word.{IsLetter, IsDigit, IsWord}
@@ -35,12 +36,6 @@ is_plain_word (b ∷ bs) = (is_small b && list_all is_small bs) && nat_le (lengt
 small_letter : (b : ℕ) → is_small b ≡ true → IsLetter b
 small_letter b e = grind (arith, nat_tests)
 
-within : (n m : ℕ) → nat_le n m ≡ true → n ≤ m
-within n m e = grind (arith, nat_tests)
-
-below : (n m : ℕ) → nat_lt n m ≡ true → n < m
-below n m e = grind (arith, nat_tests)
-
 plain_word_token : (word : List ℕ) → is_plain_word word ≡ true → IsTokenText word
 plain_word_token [] e = absurd cc
 plain_word_token (b ∷ bs) e =
@@ -49,7 +44,7 @@ plain_word_token (b ∷ bs) e =
     let word : IsWord (b ∷ bs) = (small_letter b bytes.0, λ k d h. inl (small_letter (get_or bs k d) (AllPass-from_list_all is_small bs bytes.1 k d h))) in
     record {
       lexeme = inl word;
-      limits = record { word = λ _. within (length (b ∷ bs)) 32 parts.1; number = λ number. absurd (word_no_number (b ∷ bs) word number) };
+      limits = record { word = λ _. leb-true (length (b ∷ bs)) 32 parts.1; number = λ number. absurd (word_no_number (b ∷ bs) word number) };
     }
 
 plain_word : (wanted : Kind) (word : List ℕ) → is_plain_word word ≡ true → ((at : ℕ) → kind_of (token_of at word) ≡ wanted) → IsFixed wanted word
@@ -68,7 +63,7 @@ symbol_token word symbol = record {
 
 -- the symbol stands among the symbols with this number
 symbol : (wanted : Kind) (word : List ℕ) (number : ℕ) → nat_lt number (length symbols) ≡ true → get_or symbols number word ≡ word → ((at : ℕ) → kind_of (token_of at word) ≡ wanted) → IsFixed wanted word
-symbol wanted word number inside there is = record { token = symbol_token word (number, below number (length symbols) inside, there); is = is }
+symbol wanted word number inside there is = record { token = symbol_token word (number, ltb-true number (length symbols) inside, there); is = is }
 
 -- ---- the words of the grammar
 

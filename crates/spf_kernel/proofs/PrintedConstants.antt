@@ -1,11 +1,13 @@
 -- A constant of an index expression is printed as few numbers whose sum it is.
-use Rattle.std.proofs.Common.{◌≡◌, ℕ, ℤ, pos, negsuc, ◌+ℤ◌, ◌+◌, ◌*◌, ◌/◌, ◌%◌, ◌<◌, ◌≤◌, ◌^◌, suc, zero, Bool, true, false, List, [], ◌∷◌, ◌++◌, length, replicate, unsigned_abs, refl, sym, ◌∙◌, arith, w64, true≢false, length-append}
+use Rattle.std.proofs.Common.{◌≡◌, ℕ, ℤ, pos, negsuc, ◌+ℤ◌, ◌+◌, ◌*◌, ◌/◌, ◌%◌, ◌<◌, ◌≤◌, ◌^◌, suc, zero, Bool, true, false, List, [], ◌∷◌, length, replicate, unsigned_abs, refl, sym, ◌∙◌, arith, w64, true≢false, length-append}
 use Rattle.std.specs.Prelude.{◌==◌, if◌then◌else◌}
 use Rattle.std.specs.Int.{is_negative}
-use Rattle.std.specs.List.{AllByRecursion}
+use Rattle.std.specs.List.{AllByRecursion, sum}
 use Rattle.std.proofs.lemmas.Int.{ints, int_wrap_fits, fits_signed_from_abs}
 use Rattle.std.proofs.lemmas.Bool.Decides.{nat_tests}
 use Rattle.std.proofs.lemmas.List.{length-replicate}
+use Rattle.std.proofs.lemmas.List.Folds.{sum_by-replicate}
+use Rattle.std.proofs.lemmas.List.Sums.{sum_by-append, sum_by-cons}
 use Rattle.std.proofs.lemmas.Nat.{div-add-mod'}
 use Rattle.spf_base.specs.Wrap.{wrap}
 use Rattle.spf_base.proofs.Wraps.{IsWrap-wrap, wrap_only}
@@ -45,22 +47,12 @@ signed_sum false a b = omega (arith, ints)
 
 -- ---- pieces
 
--- the sum of numbers
-abbrev pub summed : List ℕ → ℕ
-summed [] = 0
-summed (n ∷ ns) = n + summed ns
+pub first_sum : (n : ℕ) (ns : List ℕ) → sum (n ∷ ns) ≡ n + sum ns
+first_sum n ns = sum_by-cons (λ (x : ℕ). x) n ns
 
 -- the number is within the limit
 abbrev pub IsPiece : ℕ → Type 0
 IsPiece n = n ≤ limit
-
-sum_append : (xs ys : List ℕ) → summed (xs ++ ys) ≡ summed xs + summed ys
-sum_append [] ys = omega arith
-sum_append (x ∷ xs) ys = omega (arith, sum_append xs ys)
-
-limits_summed : (k : ℕ) → summed (replicate k limit) ≡ k * limit
-limits_summed zero = refl
-limits_summed (suc k) = omega (arith, limits_summed k)
 
 limits_small : (k : ℕ) → AllByRecursion IsPiece (replicate k limit)
 limits_small zero = tt
@@ -70,7 +62,7 @@ limits_small (suc k) = (omega arith, limits_small k)
 abbrev left_over : Bool → ℕ → List ℕ
 left_over none n = if none then [] else n ∷ []
 
-left_sum : (none : Bool) (n : ℕ) → (n == 0) ≡ none → summed (left_over none n) ≡ n
+left_sum : (none : Bool) (n : ℕ) → (n == 0) ≡ none → sum (left_over none n) ≡ n
 left_sum true n e = grind (arith, nat_tests)
 left_sum false n e = omega arith
 
@@ -84,10 +76,10 @@ left_few false n d k e fits =
     let some : 0 < n = grind (arith, nat_tests) in
     omega arith
 
-pub pieces_sum : (n : ℕ) → summed (pieces n) ≡ n
+pub pieces_sum : (n : ℕ) → sum (pieces n) ≡ n
 pieces_sum n =
-    sum_append (replicate (n / limit) limit) (left_over (n % limit == 0) (n % limit))
-    ∙ omega (arith, limits_summed (n / limit), left_sum (n % limit == 0) (n % limit) refl, div-add-mod' n limit)
+    sum_by-append (λ (x : ℕ). x) (replicate (n / limit) limit) (left_over (n % limit == 0) (n % limit))
+    ∙ omega (arith, sum_by-replicate (λ (x : ℕ). x) (n / limit) limit, left_sum (n % limit == 0) (n % limit) refl, div-add-mod' n limit)
 
 pub pieces_small : (n : ℕ) → AllByRecursion IsPiece (pieces n)
 pieces_small n =

@@ -1,8 +1,8 @@
 -- Notes that are alike have the names of the others and break no rule if those break none, and each note that breaks none is kept.
-use Rattle.std.proofs.Common.{◌≡◌, ℕ, zero, suc, ◌≤◌, ◌<◌, Bool, true, false, nat_le, nat_lt, cond, List, [], ◌∷◌, ◌++◌, length, Some, slice_get, refl, ap, sym, ◌∙◌, subst, ◌⊎◌, inl, inr, true≢false, append_assoc, append-nil, length-append, arith}
+use Rattle.std.proofs.Common.{◌≡◌, ℕ, zero, suc, Bool, true, false, cond, List, [], ◌∷◌, ◌++◌, length, Some, slice_get, refl, ap, sym, ◌∙◌, subst, ◌⊎◌, inl, inr, true≢false, append_assoc, append-nil, length-append, arith}
 use Rattle.std.specs.Prelude.{option_map}
 use Rattle.std.specs.List.{AllByRecursion}
-use Rattle.std.proofs.lemmas.Bool.Decides.{nat_tests}
+use Rattle.std.proofs.lemmas.Bool.{leb-false, ltb-false, le-ltb, lt-leb}
 use Rattle.std.proofs.lemmas.Option.{slice_get-map}
 use Rattle.std.specs.Option.{unwrap_or}
 use Rattle.spf_lex.proofs.Leaves.{split_each}
@@ -33,27 +33,15 @@ names_again texts written others notes same = ap names_in (seen_told written not
 
 -- ---- numbers within their limits
 
-at_most : (limit n : ℕ) → nat_lt limit n ≡ false → n ≤ limit
-at_most limit n e = grind (arith, nat_tests)
-
-not_past : (limit n : ℕ) → n ≤ limit → nat_lt limit n ≡ false
-not_past limit n below = grind (arith, nat_tests)
-
-not_reached : (limit n : ℕ) → n < limit → nat_le limit n ≡ false
-not_reached limit n below = grind (arith, nat_tests)
-
-before_limit : (limit n : ℕ) → nat_le limit n ≡ false → n < limit
-before_limit limit n e = grind (arith, nat_tests)
-
 module _ (texts : List (List ℕ)) (before : List Note) (token : Token) where
   within_limit : (says : Says) → is_large texts before token says ≡ false → IsWithin token says
-  within_limit (Number true) e = at_most 1048576 token.value e
-  within_limit (Number false) e = at_most 4194304 token.value e
+  within_limit (Number true) e = ltb-false 1048576 token.value e
+  within_limit (Number false) e = ltb-false 4194304 token.value e
   within_limit says e = tt
 
   not_large : (times : Bool) → IsWithin token (Number times) → is_large texts before token (Number times) ≡ false
-  not_large true within = not_past 1048576 token.value within
-  not_large false within = not_past 4194304 token.value within
+  not_large true within = le-ltb 1048576 token.value within
+  not_large false within = le-ltb 4194304 token.value within
 
 -- ---- monomials that aren't one too many
 
@@ -63,13 +51,13 @@ monomials notes = count_that is_monomial (since is_expression notes)
 
 module _ (texts : List (List ℕ)) (before : List Note) (token : Token) where
   early_by : (says : Says) → is_late_part texts before token says ≡ false → IsEarly (monomials before) says
-  early_by (Monomial spot_is.Bound) e = before_limit 8 (monomials before) e
-  early_by (Monomial spot) e = before_limit 64 (monomials before) e
+  early_by (Monomial spot_is.Bound) e = leb-false 8 (monomials before) e
+  early_by (Monomial spot) e = leb-false 64 (monomials before) e
   early_by says e = tt
 
   not_late : (spot : Spot) → IsEarly (monomials before) (Monomial spot) → is_late_part texts before token (Monomial spot) ≡ false
-  not_late spot_is.Bound early = not_reached 8 (monomials before) early
-  not_late spot early = not_reached 64 (monomials before) early
+  not_late spot_is.Bound early = lt-leb 8 (monomials before) early
+  not_late spot early = lt-leb 64 (monomials before) early
 
 further : (n : ℕ) (says : Says) → cond (is_expression says) 0 (more (is_monomial says) n) ≡ one_further n says
 further n Expression = refl

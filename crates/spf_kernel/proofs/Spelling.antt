@@ -1,4 +1,5 @@
 -- Words as tokens: where words stand, and how the words of the parts of a text spell it.
+use Rattle.std.proofs.Math.Seq.{get_or-append_seam}
 use Rattle.std.proofs.Common.{◌≡◌, ℕ, ◌+◌, List, [], ◌∷◌, ◌++◌, length, get_or, refl, subst, arith, inl, inr, append_assoc, length-append}
 use Rattle.spf_lex.specs.Grammar.{Grammar, Nothing, One, Then, Or, Many}
 use Rattle.spf_lex.specs.Derivation.{Derivation, Spells}
@@ -25,11 +26,7 @@ holds_all front [] = tt
 holds_all front (word ∷ words) =
     let behind = holds_all (front ++ word ∷ []) words in
     let one : length (front ++ word ∷ []) ≡ length front + 1 = omega (arith, length-append front (word ∷ [])) in
-    (here front, subst (λ (texts : List (List ℕ)). Holds texts (length front + 1) words) (append_assoc front (word ∷ []) words) (subst (λ n. Holds ((front ++ word ∷ []) ++ words) n words) one behind))
-  where
-    here : (front : List (List ℕ)) → get_or (front ++ word ∷ words) (length front) [] ≡ word
-    here [] = refl
-    here (first ∷ front) = here front
+    (get_or-append_seam front word words [], subst (λ (texts : List (List ℕ)). Holds texts (length front + 1) words) (append_assoc front (word ∷ []) words) (subst (λ n. Holds ((front ++ word ∷ []) ++ words) n words) one behind))
 
 -- the token made of a word that stands there has that word as its text
 pub text_here : (texts : List (List ℕ)) (at : ℕ) (word : List ℕ) → get_or texts at [] ≡ word → text_of texts (token_of at word) ≡ word

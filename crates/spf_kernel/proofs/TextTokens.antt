@@ -1,6 +1,7 @@
 -- What holds of the token that each text makes holds of each token of a kernel that stands among them.
 use Rattle.std.proofs.Common.{◌≡◌, ℕ, ◌+◌, List, [], ◌∷◌, ◌++◌, length, drop, get_or, All, refl, sym, ◌∙◌, arith, append_assoc, length-append}
 use Rattle.std.specs.List.{AllByRecursion}
+use Rattle.std.proofs.Math.Seq.{get_or-append_seam}
 use Rattle.std.proofs.lemmas.List.Elements.{All-head, All-tail, All-drop, All-from_recursion, recursion_from_All}
 use Rattle.spf_lex.specs.Derivation.{Derivation, Spells}
 use Rattle.spf_lex.specs.Tokens.{IsTokenText}
@@ -11,10 +12,6 @@ use Rattle.spf_kernel.specs.IsKernel.{kind_of}
 use Rattle.spf_kernel.specs.KernelGrammar.{kernel}
 use Rattle.spf_kernel.specs.Token.{token_of, numbered, tokens_of}
 
-text_behind : (front : List (List ℕ)) (text : List ℕ) (rest : List (List ℕ)) → get_or (front ++ text ∷ rest) (length front) [] ≡ text
-text_behind [] text rest = refl
-text_behind (t ∷ front) text rest = text_behind front text rest
-
 module _ (texts : List (List ℕ)) (P : Kind → Token → Type 0)
     (one : (at : ℕ) (text : List ℕ) → get_or texts at [] ≡ text → IsTokenText text → P (kind_of (token_of at text)) (token_of at text)) where
   abbrev IsFine : Token → Type 0
@@ -23,7 +20,7 @@ module _ (texts : List (List ℕ)) (P : Kind → Token → Type 0)
   rest_each : (at : ℕ) (front rest : List (List ℕ)) → at ≡ length front → texts ≡ front ++ rest → All IsTokenText rest → AllByRecursion IsFine (numbered at rest)
   rest_each at front [] e is each = tt
   rest_each at front (text ∷ rest) e is each =
-      let there : get_or texts at [] ≡ text = rw (is, e) (text_behind front text rest) in (
+      let there : get_or texts at [] ≡ text = rw (is, e) (get_or-append_seam front text rest []) in (
         one at text there (All-head IsTokenText text rest each),
         rest_each (at + 1) (front ++ text ∷ []) rest (omega (arith, length-append front (text ∷ []))) (is ∙ sym (append_assoc front (text ∷ []) rest)) (All-tail IsTokenText text rest each),
       )

@@ -1,7 +1,7 @@
 -- The printed constant of an index expression means it again.
 use Rattle.std.proofs.Common.{◌≡◌, ℕ, ℤ, ◌+◌, ◌-◌, ◌*◌, ◌≤◌, Bool, true, false, List, [], ◌∷◌, ◌++◌, length, flat_map, refl, ap, sym, ◌∙◌, subst, arith, append_assoc, decimal, min, unsigned_abs}
 use Rattle.std.specs.Int.{is_negative}
-use Rattle.std.specs.List.{AllByRecursion}
+use Rattle.std.specs.List.{AllByRecursion, sum}
 use Rattle.spf_base.specs.Wrap.{wrap}
 use Rattle.spf_lex.specs.Grammar.{Grammar}
 use Rattle.spf_lex.specs.Derivation.{Derivation}
@@ -19,7 +19,7 @@ use Rattle.spf_kernel.specs.Printed.{lead_words, sign_word, limit, pieces, furth
 use Rattle.spf_kernel.specs.RawTree.{sum_in}
 use Rattle.spf_kernel.specs.Resolved.{signed, term_of}
 use Rattle.spf_kernel.specs.Rules.{is_monomial, count_that}
-use Rattle.spf_kernel.proofs.PrintedConstants.{IsPiece, summed, pieces_sum, pieces_small, pieces_few, signed_back, signed_sum}
+use Rattle.spf_kernel.proofs.PrintedConstants.{IsPiece, first_sum, pieces_sum, pieces_small, pieces_few, signed_back, signed_sum}
 use Rattle.spf_kernel.proofs.SpelledParts.{no_words, behind_part, on_left, on_right, numeral_written}
 use Rattle.spf_kernel.proofs.Told.{told}
 use Rattle.spf_kernel.proofs.WrittenInside.{IsWrittenInside, told_as, IsMono, AreSteps, no_steps, one_more_step, more_counted, sum_written}
@@ -38,11 +38,11 @@ module _ (written : List (List ℕ)) (names : Names) (again : Scope) (spot : Spo
   abbrev piece_words : Bool → List ℕ → List (List ℕ)
   piece_words minus ns = flat_map (λ piece. sign_word minus ∷ decimal piece ∷ []) ns
 
-  numbers_written : (minus : Bool) (ns : List ℕ) → AllByRecursion IsPiece ns → (at : ℕ) → AreSteps written names again spot a atom_in (piece_words minus ns) [] (signed minus (summed ns)) [] (length ns) at
+  numbers_written : (minus : Bool) (ns : List ℕ) → AllByRecursion IsPiece ns → (at : ℕ) → AreSteps written names again spot a atom_in (piece_words minus ns) [] (signed minus (sum ns)) [] (length ns) at
   numbers_written true [] small at = no_steps at refl
   numbers_written false [] small at = no_steps at refl
   numbers_written minus (n ∷ ns) small at =
-      one_more_step (length (n ∷ ns)) at (number_written minus n small.0 (at + 1)) (numbers_written minus ns small.1 (at + 1 + 1)) (sym (signed_sum minus n (summed ns))) (omega arith)
+      one_more_step (length (n ∷ ns)) at (number_written minus n small.0 (at + 1)) (numbers_written minus ns small.1 (at + 1 + 1)) (sym (ap (signed minus) (first_sum n ns) ∙ signed_sum minus n (sum ns))) (omega arith)
 
   -- a constant behind monomials
   pub further_written : (minus : Bool) (n k : ℕ) → n ≤ k * limit → (at : ℕ) → AreSteps written names again spot a atom_in (further_number minus n) [] (signed minus n) [] k at

@@ -1,5 +1,5 @@
 -- What the rules say of the notes of a kernel.
-use Rattle.std.specs.Prelude.{ℕ, ◌≡◌, ◌+◌, ◌==◌, ◌&&◌, ◌||◌, nat_lt, if◌then◌else◌, Bool, List, position, Option, None, Some, Result, Ok, Err}
+use Rattle.std.specs.Prelude.{ℕ, ◌≡◌, ◌+◌, ◌<◌, ◌⊎◌, Bool, List, position, Option, None, Some, Result, Ok, Err}
 use Rattle.std.specs.Option.{option_map}
 use Rattle.spf_kernel.specs.declared.note.Note.{Note}
 use Rattle.spf_kernel.specs.declared.token.Token.{Token}
@@ -8,9 +8,9 @@ use Rattle.spf_kernel.specs.declared.rules.Breach.{Breach}
 use Rattle.spf_kernel.specs.Names.{Names, names_of}
 use Rattle.spf_kernel.specs.Rules.{rules, IsFirstBreach, IsUnbroken}
 
--- the lesser of two breaches, by the place and then by the rule
-abbrev pub lesser : Breach → Breach → Breach
-lesser a b = if nat_lt b.place a.place || (b.place == a.place && nat_lt b.rule a.rule) then b else a
+-- a breach comes before another: by the place, and then by the rule
+abbrev pub Precedes : Breach → Breach → Type 0
+Precedes a b = (a.place < b.place) ⊎ ((a.place ≡ b.place) × (a.rule < b.rule))
 
 module _ (texts : List (List ℕ)) where
   -- the least rule that the note breaks, behind those before

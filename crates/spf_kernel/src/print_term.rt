@@ -12,7 +12,7 @@ use sqlite_items::Items;
 
 /// A law, which does nothing when it is called: the numbers that a constant is printed as are as few within the limit as can
 /// be. A constant behind monomials is printed as its pieces, and one that is alone too, unless it is zero.
-#[tactic(auto, using(crate::proofs::FewestPieces::sum_of_pieces, crate::proofs::FewestPieces::pieces_within, crate::proofs::FewestPieces::pieces_fewest, crate::proofs::FewestPieces::pieces_alone))]
+#[tactic(auto, using(crate::proofs::PrintedConstants::pieces_sum, crate::proofs::FewestPieces::pieces_within, crate::proofs::FewestPieces::pieces_fewest, crate::proofs::FewestPieces::pieces_alone))]
 pub fn pieces_are_fewest()
     ensures sum { (n : ℕ) → sum (pieces n) ≡ n }
     ensures within { (n : ℕ) → All (λ piece. piece ≤ limit) (pieces n) }

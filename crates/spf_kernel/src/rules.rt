@@ -1,12 +1,12 @@
 //! The check of a kernel's notes by the eleven rules.
 
-ghost use Rattle.std.specs.Prelude.{◌≡◌, ◌+◌, ◌^◌, ◌<◌, List, [], ◌∷◌, ◌++◌, length, position, IfOk, IfSome};
+ghost use Rattle.std.specs.Prelude.{◌≡◌, ◌+◌, ◌^◌, ◌<◌, ◌⊎◌, List, [], ◌∷◌, ◌++◌, length, position, IfOk, IfSome};
 ghost use Rattle.std.specs.Option.{option_map};
 ghost use Rattle.spf_lex.specs.Tokens.{texts};
 ghost use Rattle.spf_kernel.specs.declared.note.Note.{Note};
 ghost use Rattle.spf_kernel.specs.Before.{before_of};
 ghost use Rattle.spf_kernel.specs.Counts.{IsBelow};
-ghost use Rattle.spf_kernel.specs.Checked.{least_rule, lesser, IsFirst, Checked};
+ghost use Rattle.spf_kernel.specs.Checked.{least_rule, Precedes, IsFirst, Checked};
 
 use crate::before::Before;
 use crate::limits::{
@@ -68,9 +68,9 @@ fn least_rule(tokens: &Tokens, before: &Before, note: &Note) -> Option<u32>
     first_number(&broken)
 }
 
-/// The lesser of the two, by the place and then by the rule.
+/// The second, if it comes before the first, and else the first.
 fn lesser(a: Breach, b: Breach) -> Breach
-    ensures { result ≡ lesser a b }
+    ensures { ((result ≡ b) × Precedes b a) ⊎ ((result ≡ a) × ¬ Precedes b a) }
 {
     if b.place < a.place || (b.place == a.place && b.rule < a.rule) {
         b
