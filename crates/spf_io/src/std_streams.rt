@@ -1,6 +1,7 @@
 //! The standard streams of the process.
 
 ghost use Rattle.std.specs.Prelude.{◌≡◌, ◌<◌, ◌≤◌, length, None, IfOk, OnOk, OnErr};
+ghost use Rattle.std.specs.Io.KnownBytes.{ReadConsumes, WriteAppends};
 ghost use Rattle.spf_io.specs.Stream.{count_up};
 
 use crate::failed::Failed;
@@ -47,12 +48,23 @@ impl Source for StdSource {
         ensures counted { OnErr result (self.new ≡ count_up self.old) }
         ensures never_falls { self.old ≤ self.new }
     {
-        match self.stdin.read(into) {
-            Ok(count) => Ok(count),
-            Err(_) => {
-                self.faults = self.faults.saturating_add(1);
-                Err(Failed)
-            }
+        read_counted(&mut self.stdin, &mut self.faults, into)
+    }
+}
+
+/// One read of a stream, by which the count of faults rises where the stream fails.
+fn read_counted<R: Read>(stream: &mut R, faults: &mut u64, into: &mut [u8]) -> Result<usize, Failed>
+    ensures count { IfOk result (λ n. n ≤ length into.old) }
+    ensures consumed { ReadConsumes (R.remaining stream.old) (R.remaining stream.new) result into.new }
+    ensures kept { OnOk result (faults.new ≡ faults.old) }
+    ensures counted { OnErr result (faults.new ≡ count_up faults.old) }
+    ensures never_falls { faults.old ≤ faults.new }
+{
+    match stream.read(into) {
+        Ok(count) => Ok(count),
+        Err(_) => {
+            *faults = faults.saturating_add(1);
+            Err(Failed)
         }
     }
 }
@@ -105,16 +117,28 @@ impl Sink for StdSink {
         ensures counted { OnErr result (self.new ≡ count_up self.old) }
         ensures never_falls { self.old ≤ self.new }
     {
-        let written = match &mut self.stream {
-            Stream::Output(output) => output.write(piece),
-            Stream::Error(error) => error.write(piece),
-        };
-        match written {
-            Ok(count) if count > 0 || piece.is_empty() => Ok(count),
-            _ => {
-                self.faults = self.faults.saturating_add(1);
-                Err(Failed)
-            }
+        match &mut self.stream {
+            Stream::Output(output) => write_counted(output, &mut self.faults, piece),
+            Stream::Error(error) => write_counted(error, &mut self.faults, piece),
+        }
+    }
+}
+
+/// One write to a stream, by which the count of faults rises where the stream fails, and where it takes nothing of a
+/// piece that isn't empty.
+fn write_counted<W: Write>(stream: &mut W, faults: &mut u64, piece: &[u8]) -> Result<usize, Failed>
+    ensures count { IfOk result (λ n. n ≤ length piece.now) }
+    ensures some { IfOk result (λ n. 0 < length piece.now → 0 < n) }
+    ensures appended { WriteAppends (W.contents stream.old) (W.contents stream.new) result piece.now }
+    ensures kept { OnOk result (faults.new ≡ faults.old) }
+    ensures counted { OnErr result (faults.new ≡ count_up faults.old) }
+    ensures never_falls { faults.old ≤ faults.new }
+{
+    match stream.write(piece) {
+        Ok(count) if count > 0 || piece.is_empty() => Ok(count),
+        _ => {
+            *faults = faults.saturating_add(1);
+            Err(Failed)
         }
     }
 }
