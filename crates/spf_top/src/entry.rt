@@ -4,7 +4,7 @@ ghost use Rattle.std.specs.Prelude.{SomeIff, FitsSigned};
 ghost use Rattle.std.specs.Int.{w64};
 
 /// A number of an array's list, with `-` in front of it or without.
-#[derive(Clone, Copy, Debug, PartialEq, Eq)]
+#[derive(Clone, Copy)]
 pub struct Entry {
     pub minus: bool,
     pub number: u64,

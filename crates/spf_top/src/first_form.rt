@@ -73,7 +73,7 @@ const ARRAY_HEAD: [Kind; 3] = [Kind::Semicolon, Kind::X, Kind::Equals];
 const CLOSING: [Kind; 2] = [Kind::Semicolon, Kind::CloseBrace];
 
 /// What stands in front of the array's list.
-#[derive(Clone, Copy, Debug)]
+#[derive(Clone, Copy)]
 pub struct Head {
     /// The number of steps.
     pub steps: u64,
@@ -86,7 +86,7 @@ pub struct Head {
 }
 
 /// What a text of the first form says.
-#[derive(Debug, Drop)]
+#[derive(Drop)]
 pub struct FirstForm {
     pub head: Head,
     /// The values of `x`.

@@ -4,7 +4,7 @@ ghost use Rattle.std.specs.Prelude.{◌≡◌};
 ghost use Rattle.spf_top.specs.Kind.{kind_of, word_kind_of, symbol_kind_of};
 
 /// What the grammar tells apart of a token.
-#[derive(Clone, Copy, Debug, PartialEq, Eq)]
+#[derive(Clone, Copy, PartialEq, Eq)]
 pub enum Kind {
     /// A number of value 1.
     One,

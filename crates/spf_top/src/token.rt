@@ -10,7 +10,7 @@ use spf_lex::{Tokens, number};
 use std::alloc::Global;
 
 /// A token: its kind, and its value where it is a number.
-#[derive(Clone, Copy, Debug, PartialEq, Eq)]
+#[derive(Clone, Copy)]
 pub struct Token {
     pub kind: Kind,
     pub number: u64,
