@@ -14,6 +14,3 @@ pub use arithmetic::{one_wrap, wadd, wmul, wsub};
 pub use name::Name;
 pub use no_memory::NoMemory;
 pub use place::Place;
-
-#[cfg(test)]
-mod tests;

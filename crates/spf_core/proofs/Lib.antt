@@ -5,7 +5,6 @@ pub mod MarkSteps
 pub mod Marks
 pub mod Runs
 pub mod TilesInTurn
-pub mod SoundTests
 pub mod StateSteps
 pub mod Tiles
 pub mod Unordered

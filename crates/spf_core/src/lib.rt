@@ -25,6 +25,3 @@ pub use job::Job;
 pub use order::Order;
 pub use serially::serial;
 pub use state::State;
-
-#[cfg(test)]
-mod tests;

@@ -27,6 +27,3 @@ pub use source::Source;
 pub use std_streams::{StdSink, StdSource};
 pub use whole_input::{MAX_BYTES, ReadAll, read_all};
 pub use whole_output::write_all;
-
-#[cfg(test)]
-mod tests;

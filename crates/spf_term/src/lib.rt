@@ -10,6 +10,3 @@ mod term;
 
 pub use env::Env;
 pub use term::{Atom, Mono, Term};
-
-#[cfg(test)]
-mod tests;

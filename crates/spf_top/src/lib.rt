@@ -24,6 +24,3 @@ mod words;
 
 pub use commands::command;
 pub use outcome::{Outcome, status};
-
-#[cfg(test)]
-mod tests;

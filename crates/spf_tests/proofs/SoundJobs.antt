@@ -1,8 +1,8 @@
 -- A test of small jobs: where it computes to true, the job is sound.
 use Rattle.std.proofs.Common.{◌≡◌, ℕ, zero, suc, ◌<◌, ◌≤◌, Bool, true, false, ◌&&◌, ◌||◌, not, Option, None, Some, List, [], ◌∷◌, length, get_or, inl, inr, refl, sym, ◌∙◌, arith, eqb, ltb, leb}
-use Rattle.std.proofs.lemmas.Bool.{and_parts, cases_lt, eq-eqb, eqb-true, false≢true, leb-true, ltb-true, ne_eqb, not-true, or_cases, or_left, or_right, both_ways}
+use Rattle.std.proofs.lemmas.Bool.{and_parts, cases_eq, cases_lt, eq-eqb, eqb-true, false≢true, leb-true, ltb-true, ne_eqb, not-true, or_cases, or_left, or_right, both_ways}
 use Rattle.std.proofs.lemmas.List.{get_or_past}
-use Rattle.std.specs.List.{AllPairs, range_with_len}
+use Rattle.std.specs.List.{AllPairs}
 use Rattle.std.specs.Prelude.{Any}
 use Rattle.spf_touch.specs.Conflict.{Clash, Conflict, is_shared}
 use Rattle.spf_touch.specs.Copy.{class_of}
@@ -11,8 +11,6 @@ use Rattle.spf_touch.specs.Ordered.{IsLegalOrder, is_in}
 use Rattle.spf_core.specs.History.{is_before}
 use Rattle.spf_core.specs.SoundJob.{IsFoot, IsSound}
 use Rattle.spf_core.specs.Tiling.{Tiling, foot_of, list_of, tile_class}
-use Rattle.spf_touch.proofs.Classes.{conflict_turned}
-use Rattle.spf_core.proofs.TilesInTurn.{in_range}
 use Rattle.spf_touch.specs.declared.class.Class.{Class}
 use Rattle.spf_touch.specs.declared.class.Class.TheVariants.{Read, Write, Add}
 use Rattle.spf_touch.specs.declared.touch.Touch.{Touch}
@@ -31,10 +29,14 @@ all_in_at p (x ∷ xs) n h k =
     ]
 
 abbrev all_below : (ℕ → Bool) → ℕ → Bool
-all_below p n = all_in p (range_with_len 0 n)
+all_below p zero = true
+all_below p (suc n) = p n && all_below p n
 
 below_at : (p : ℕ → Bool) (n k : ℕ) → all_below p n ≡ true → k < n → p k ≡ true
-below_at p n k h b = all_in_at p (range_with_len 0 n) k h (in_range 0 n k (omega arith) (omega arith))
+below_at p zero k h b = absurd (omega arith)
+below_at p (suc n) k h b =
+    let parts = and_parts (p n) (all_below p n) h in
+    elim (cases_eq k n) [ inl here ↦ rw here parts.0 | inr other ↦ below_at p n k parts.1 (omega arith) ]
 
 abbrev some : (Touch → Bool) → List Touch → Bool
 some p [] = false
@@ -57,15 +59,18 @@ clash_found s t h = rw (eq-eqb s.element t.element h.0, h.1) refl
 conflict_found : (a b : List Touch) → Conflict a b → conflicts a b ≡ true
 conflict_found a b h = some_found (λ s. Any (Clash s) b) (λ s. some (clash s) b) (λ s k. some_found (Clash s) (clash s) (clash_found s) b k) a h
 
--- in ascending number, or no conflict
-abbrev fine : Behavior → ℕ → ℕ → Bool
-fine units u v = ltb u v || not (conflicts (units.touches u) (units.touches v))
+-- this holds, or the units don't conflict
+abbrev or_free : Behavior → Bool → ℕ → ℕ → Bool
+or_free units this u v = this || not (conflicts (units.touches u) (units.touches v))
 
-fine_at : (units : Behavior) (u v : ℕ) → fine units u v ≡ true → Conflict (units.touches u) (units.touches v) → u < v
-fine_at units u v h k = elim (or_cases (ltb u v) (not (conflicts (units.touches u) (units.touches v))) h) [
-  | inl below ↦ ltb-true u v below
+or_free_at : (units : Behavior) (this : Bool) (u v : ℕ) → or_free units this u v ≡ true → Conflict (units.touches u) (units.touches v) → this ≡ true
+or_free_at units this u v h k = elim (or_cases this (not (conflicts (units.touches u) (units.touches v))) h) [
+  | inl yes' ↦ yes'
   | inr free ↦ absurd (both_ways _ (not-true _ free) (conflict_found (units.touches u) (units.touches v) k))
 ]
+
+abbrev fine : Behavior → ℕ → ℕ → Bool
+fine units u v = or_free units (ltb u v) u v
 
 abbrev legal_test : Behavior → List ℕ → Bool
 legal_test units [] = true
@@ -77,7 +82,7 @@ legal_from units (u ∷ us) h =
     let parts = and_parts (ltb u units.count && not (is_in us u)) (all_in (fine units u) us && legal_test units us) h in
     let front = and_parts (ltb u units.count) (not (is_in us u)) parts.0 in
     let rest = and_parts (all_in (fine units u) us) (legal_test units us) parts.1 in
-    (ltb-true u units.count front.0, not-true (is_in us u) front.1, λ v k clash'. fine_at units u v (all_in_at (fine units u) us v rest.0 k) clash', legal_from units us rest.1)
+    (ltb-true u units.count front.0, not-true (is_in us u) front.1, λ v k clash'. ltb-true u v (or_free_at units (ltb u v) u v (all_in_at (fine units u) us v rest.0 k) clash'), legal_from units us rest.1)
 
 abbrev all_touches : (Touch → Bool) → List Touch → Bool
 all_touches p [] = true
@@ -176,16 +181,13 @@ sizes job = (leb 1 (length job.lists) && leb (length job.lists) 1024) && (eqb (l
 
 -- of two units in different lists that conflict, the lesser stands in the list that is before the other
 abbrev ordered_pair : Behavior → Tiling → ℕ → ℕ → ℕ → ℕ → Bool
-ordered_pair units job s t u v = (eqb s t || is_before job.order s t) || (fine units v u)
+ordered_pair units job s t u v = or_free units ((eqb s t || is_before job.order s t) || ltb v u) u v
 
 abbrev ordered_test : Behavior → Tiling → Bool
 ordered_test units job = all_below (λ s. all_below (λ t. all_in (λ u. all_in (ordered_pair units job s t u) (list_of job t)) (list_of job s)) (length job.lists)) (length job.lists)
 
 abbrev order_test : List (List ℕ) → Bool
 order_test order = all_below (λ b. all_in (λ a. ltb a b && all_in (λ c. is_before order c b) (get_or order a [])) (get_or order b [])) (length order)
-
-conflict_turned_at : (units : Behavior) (u v : ℕ) → fine units v u ≡ true → Conflict (units.touches u) (units.touches v) → v < u
-conflict_turned_at units u v h k = fine_at units v u h (conflict_turned (units.touches u) (units.touches v) k)
 
 pub sound_from : (units : Behavior) (job : Tiling) (home : ℕ → ℕ) → sizes job ≡ true → homes units job home ≡ true →
     all_below (λ t. legal_test units (list_of job t)) (length job.lists) ≡ true → ordered_test units job ≡ true → order_test job.order ≡ true →
@@ -213,12 +215,12 @@ sound_from units job home size at legal ordered order feet =
           (below_at (λ y. all_in (λ x. all_in (ordered_pair units job s y x) (list_of job y)) (list_of job s)) (length job.lists) t
           (below_at (λ z. all_below (λ y. all_in (λ x. all_in (ordered_pair units job z y x) (list_of job y)) (list_of job z)) (length job.lists)) (length job.lists) s ordered (in_tile job s u h))
           (in_tile job t v k)) h) k in
-          elim (or_cases (eqb s t || is_before job.order s t) (fine units v u) pair) [
+          elim (or_cases (eqb s t || is_before job.order s t) (ltb v u) (or_free_at units _ u v pair clash')) [
             | inl front ↦ elim (or_cases (eqb s t) (is_before job.order s t) front) [
               | inl same ↦ absurd (apart (eqb-true s t same))
               | inr yes' ↦ yes'
             ]
-            | inr free ↦ let above = conflict_turned_at units u v free clash' in absurd (omega arith)
+            | inr above ↦ let above' = ltb-true v u above in absurd (omega arith)
           ];
       transitive = λ a b c h k. all_in_at (λ x. is_before job.order x c) (get_or job.order b []) a (and_parts (ltb b c) _ (before b c k)).1 h;
       upward = λ a b h. ltb-true a b (and_parts (ltb a b) _ (before a b h)).0;

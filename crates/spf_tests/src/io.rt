@@ -1,4 +1,7 @@
-use super::*;
+use spf_io::{
+    Failed, MAX_BYTES, MemSink, MemSource, ReadAll, Sink, Source, StdSink, StdSource, read_all,
+    write_all,
+};
 use std::test::Fail;
 
 const ALPHABET: &[u8] = b"abcdefghijklmnopqrstuvwxyz";
@@ -37,7 +40,9 @@ fn a_memory_sink_takes_pieces_and_fails_where_it_is_told_and_where_it_is_full(
 }
 
 #[test]
-fn read_all_joins_pieces_and_passes_on_a_fault(rt: HostRuntime) -> Result<(), Fail> {
+fn read_all_joins_pieces_and_refuses_a_fault_and_one_byte_more_than_64_mib(
+    rt: HostRuntime,
+) -> Result<(), Fail> {
     let bytes = Vec::from_slice(rt.alloc(), ALPHABET)?;
     let mut source = MemSource::new(bytes, 16, Vec::new(rt.alloc()));
     let read = read_all(rt.alloc(), &mut source)?;
@@ -52,11 +57,7 @@ fn read_all_joins_pieces_and_passes_on_a_fault(rt: HostRuntime) -> Result<(), Fa
     );
     let read = read_all(rt.alloc(), &mut source)?;
     assert_eq!(rt; read.as_slice(), b"qrstuvwxyz".as_slice());
-    Ok(())
-}
 
-#[test]
-fn one_byte_more_than_64_mib_is_too_long(rt: HostRuntime) -> Result<(), Fail> {
     let bytes = vec![in rt.alloc(); 7u8; MAX_BYTES + 1]?;
     let mut source = MemSource::new(bytes, u32::MAX, Vec::new(rt.alloc()));
     assert_eq!(rt;

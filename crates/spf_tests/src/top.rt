@@ -1,5 +1,5 @@
-use super::*;
 use spf_io::{MemSink, MemSource};
+use spf_top::{Outcome, command, status};
 use std::alloc::Global;
 use std::test::Fail;
 
@@ -117,33 +117,64 @@ fn one_byte_more_than_64_mib_waits_for_later(rt: HostRuntime) -> Result<(), Fail
 }
 
 #[test]
-fn a_refused_word_is_named(rt: HostRuntime) -> Result<(), Fail> {
-    let rows: [(&[&str], u32, &[u8]); 4] = [
-        (&[], 1, b"usage: word 1\n"),
-        (&["walk"], 1, b"usage: word 1\n"),
-        (&["run", "--trace"], 2, b"usage: word 2\n"),
-        (&["run", "run", "run"], 2, b"usage: word 2\n"),
+fn a_refused_word_and_a_device_that_fails_are_told(rt: HostRuntime) -> Result<(), Fail> {
+    // The words, the calls of the source and of the sink that fail, the outcome, and what stands on both sinks.
+    let rows: [(&[&str], &[u32], &[u32], Outcome, &[u8], &[u8]); 6] = [
+        (
+            &[],
+            &[],
+            &[],
+            Outcome::Usage { word: 1 },
+            b"",
+            b"usage: word 1\n",
+        ),
+        (
+            &["walk"],
+            &[],
+            &[],
+            Outcome::Usage { word: 1 },
+            b"",
+            b"usage: word 1\n",
+        ),
+        (
+            &["run", "--trace"],
+            &[],
+            &[],
+            Outcome::Usage { word: 2 },
+            b"",
+            b"usage: word 2\n",
+        ),
+        (
+            &["run", "run", "run"],
+            &[],
+            &[],
+            Outcome::Usage { word: 2 },
+            b"",
+            b"usage: word 2\n",
+        ),
+        (
+            &["run"],
+            &[1],
+            &[],
+            Outcome::ReadFault,
+            b"",
+            b"read fault\n",
+        ),
+        (
+            &["run"],
+            &[],
+            &[1],
+            Outcome::WriteFault,
+            b"x 2",
+            b"write fault\n",
+        ),
     ];
-    for (words, word, line) in rows {
-        let ran = run(rt.alloc(), words, INCREMENT, &[], &[])?;
-        assert_eq!(rt; ran.outcome, Outcome::Usage { word });
-        assert!(rt; ran.out.is_empty());
+    for (words, read_faults, write_faults, outcome, out, line) in rows {
+        let ran = run(rt.alloc(), words, INCREMENT, read_faults, write_faults)?;
+        assert_eq!(rt; ran.outcome, outcome);
+        assert_eq!(rt; ran.out.as_slice(), out);
         assert_eq!(rt; ran.err.as_slice(), line);
     }
-    Ok(())
-}
-
-#[test]
-fn devices_that_fail_are_told(rt: HostRuntime) -> Result<(), Fail> {
-    let read = run(rt.alloc(), &["run"], INCREMENT, &[1], &[])?;
-    assert_eq!(rt; read.outcome, Outcome::ReadFault);
-    assert!(rt; read.out.is_empty());
-    assert_eq!(rt; read.err.as_slice(), b"read fault\n".as_slice());
-
-    let write = run(rt.alloc(), &["run"], INCREMENT, &[], &[1])?;
-    assert_eq!(rt; write.outcome, Outcome::WriteFault);
-    assert_eq!(rt; write.out.as_slice(), b"x 2".as_slice());
-    assert_eq!(rt; write.err.as_slice(), b"write fault\n".as_slice());
     Ok(())
 }
 

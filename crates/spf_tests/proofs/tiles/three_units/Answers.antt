@@ -6,8 +6,8 @@ use Rattle.spf_touch.specs.declared.op.Op.TheVariants.{Gain, Put}
 use Rattle.spf_touch.specs.declared.touch.Touch.{Touch}
 use Rattle.spf_core.specs.SoundJob.{IsSound}
 use Rattle.spf_core.specs.Tiling.{Tiling}
-use Rattle.spf_core.proofs.SoundTests.{sound_from}
-use Rattle.spf_core.proofs.tests.three_units.Goals as goal
+use Rattle.spf_tests.proofs.SoundJobs.{sound_from}
+use Rattle.spf_tests.proofs.tiles.three_units.Goals as goal
 
 abbrev put_and_gains : List (List Op)
 put_and_gains = (Put 1 0 (pos 5) ∷ []) ∷ (Gain 2 1 ∷ []) ∷ (Gain 2 0 ∷ []) ∷ []
@@ -31,4 +31,4 @@ sound us lists order feet cells a b c d e = rw (a, b, c, d, e) job_sound
 
 pub make-requires : goal.make-requires
 make-requires c =
-    sound _ _ _ _ _ (c.in_ok-units.ensures ∙ c.in_ok-put_and_gains.ensures) c.in_ok-lists.ensures (c.of_lists.ensures ∙ c.in_ok-before.ensures) c.in_ok-feet.ensures c.in_ok-cells.ensures.items
+    sound _ _ _ _ _ (c.in_ok-units.ensures ∙ c.in_ok-lists.ensures) c.in_ok-tiles.ensures (c.of_lists.ensures ∙ c.in_ok-before.ensures) c.in_ok-feet.ensures c.in_ok-cells.ensures.items

@@ -6,8 +6,8 @@ use Rattle.spf_touch.specs.declared.op.Op.TheVariants.{Gain}
 use Rattle.spf_touch.specs.declared.touch.Touch.{Touch}
 use Rattle.spf_core.specs.SoundJob.{IsSound}
 use Rattle.spf_core.specs.Tiling.{Tiling}
-use Rattle.spf_core.proofs.SoundTests.{sound_from}
-use Rattle.spf_core.proofs.tests.two_gains.Goals as goal
+use Rattle.spf_tests.proofs.SoundJobs.{sound_from}
+use Rattle.spf_tests.proofs.tiles.two_gains.Goals as goal
 
 abbrev gains : List (List Op)
 gains = (Gain 0 1 ∷ []) ∷ (Gain 0 2 ∷ []) ∷ []
@@ -29,4 +29,4 @@ sound us lists order feet cells a b c d e = rw (a, b, c, d, e) job_sound
 
 pub make-requires : goal.make-requires
 make-requires c =
-    sound _ _ _ _ _ (c.in_ok-units.ensures ∙ c.in_ok-gains.ensures) c.in_ok-lists.ensures (c.of_lists.ensures ∙ c.in_ok-before.ensures) c.in_ok-feet.ensures c.in_ok-cells.ensures.items
+    sound _ _ _ _ _ (c.in_ok-units-2.ensures ∙ c.in_ok-units.ensures) c.in_ok-tiles.ensures (c.of_lists.ensures ∙ c.in_ok-before.ensures) c.in_ok-feet.ensures c.in_ok-cells.ensures.items
