@@ -21,3 +21,5 @@ mod tiles;
 mod top;
 #[cfg(test)]
 mod touch;
+#[cfg(test)]
+mod turn;

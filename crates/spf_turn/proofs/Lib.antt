@@ -1,0 +1,10 @@
+pub mod Tales
+pub mod Views
+pub mod Changes
+pub mod StepFacts
+pub mod WordSteps
+pub mod Opening
+pub mod Splitting
+pub mod Joining
+pub mod Ends
+pub mod Sitting
