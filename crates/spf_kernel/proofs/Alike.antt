@@ -1,10 +1,10 @@
 -- How notes that tell the same as others are put together from parts that do.
-use Rattle.std.proofs.Common.{◌≡◌, ℕ, zero, suc, ◌≤◌, ◌<◌, ◌+◌, Bool, true, false, cond, List, [], ◌∷◌, ◌++◌, Option, None, refl, ap, sym, ◌∙◌, subst, true≢false, arith}
+use Rattle.std.proofs.Common.{◌≡◌, ℕ, ◌≤◌, ◌<◌, ◌+◌, ◌-◌, Bool, true, false, cond, List, [], ◌∷◌, ◌++◌, Option, None, refl, sym, ◌∙◌, subst, true≢false, arith}
 use Rattle.std.specs.Prelude.{⊤, option_map}
 use Rattle.std.specs.List.{AllByRecursion}
 use Rattle.std.proofs.lemmas.Grind.{flat_map-append}
 use Rattle.spf_lex.proofs.Leaves.{join_each}
-use Rattle.spf_kernel.specs.declared.token.Token.{Token}
+use Rattle.spf_lex.specs.declared.cursor.Token.{Token}
 use Rattle.spf_kernel.specs.declared.note.Note.{Note}
 use Rattle.spf_kernel.specs.declared.note.Says.{Says}
 use Rattle.spf_kernel.specs.declared.note.Says.TheVariants.{Declared, Variable, Used, Number, Expression, Monomial, Factor, Guard, Condition}
@@ -141,7 +141,7 @@ IsInner spot note = IsInnerSaying spot note.says
 module _ (spot : Spot) (scope : Scope) where
   mutual
     pub inner_notes : (x : RawIx) → AllByRecursion (IsInner spot) (ix_notes spot scope x)
-    inner_notes (RawIx' lead first shape others) = join_each (IsInner spot) (mono_notes spot scope first) (steps_notes spot scope others) (inner_mono first) (inner_steps others)
+    inner_notes (RawIx' shape steps) = inner_steps steps
 
     pub inner_steps : {n : _} (row : Row_of-RawStep n) → AllByRecursion (IsInner spot) (steps_notes spot scope row)
     inner_steps end_of-RawStep = tt
@@ -173,64 +173,29 @@ is_early : (n : ℕ) (spot : Spot) → n < limit spot → IsEarly n (Monomial sp
 is_early n spot_is.Bound below = below
 is_early n spot below = below
 
-counted_first : (b : Bool) (n c total : ℕ) → total ≡ more b c → more b n + c ≡ n + total
-counted_first true n c total e = omega (arith, e)
-counted_first false n c total e = omega (arith, e)
+-- with n monomials before, c more are so many in all, and none of them is one too many exactly if there is room for them
+record IsCounted (spot : Spot) (n c all : ℕ) (Early : Type 0) : Type 0 where
+  counted : all ≡ n + c
+  few : Early → c ≤ limit spot - n
+  early : c ≤ limit spot - n → Early
 
-few_first : (b : Bool) (n c total most : ℕ) → total ≡ more b c → (b ≡ true → n < most) → (1 ≤ c → more b n + c ≤ most) → 1 ≤ total → n + total ≤ most
-few_first true n zero total most e first others some = omega (arith, e, first refl)
-few_first true n (suc c) total most e first others some = omega (arith, e, others (omega arith))
-few_first false n c total most e first others some = omega (arith, e, others (omega (arith, e)))
+inner_counted : (spot : Spot) (n : ℕ) (notes : List Note) → AllByRecursion (IsInner spot) notes → IsCounted spot n (count_that is_monomial notes) (counted_on n notes) (AreEarly n notes)
+inner_counted spot n [] inner = record { counted = omega arith; few = λ early. omega arith; early = λ few. tt }
+inner_counted spot n (x ∷ xs) inner = by x.says inner.0 (first_more is_monomial x xs) (inner_counted spot (one_further n x.says) xs inner.1) where
+  c : ℕ
+  c = count_that is_monomial xs
 
-few_others : (b : Bool) (n c total most : ℕ) → total ≡ more b c → (1 ≤ total → n + total ≤ most) → 1 ≤ c → more b n + c ≤ most
-few_others true n c total most e few some = omega (arith, e, few (omega (arith, e)))
-few_others false n c total most e few some = omega (arith, e, few (omega (arith, e)))
-
-first_below : (b : Bool) (n c total most : ℕ) → total ≡ more b c → (1 ≤ total → n + total ≤ most) → b ≡ true → n < most
-first_below true n c total most e few holds = omega (arith, e, few (omega (arith, e)))
-first_below false n c total most e few holds = absurd (true≢false (sym holds))
-
-module _ (spot : Spot) where
-  inner_further : (n : ℕ) (says : Says) → IsInnerSaying spot says → one_further n says ≡ more (is_monomial says) n
-  inner_further n (Monomial here) inner = refl
-  inner_further n (Number times) inner = refl
-  inner_further n (Used brackets here scope) inner = refl
-  inner_further n says inner = absurd inner
-
-  early_below : (n : ℕ) (says : Says) → IsInnerSaying spot says → IsEarly n says → is_monomial says ≡ true → n < limit spot
-  early_below n (Monomial here) inner early holds = subst (λ s. n < limit s) inner (below_limit n here early)
-  early_below n says inner early holds = absurd (true≢false (sym holds))
-
-  below_early : (n : ℕ) (says : Says) → IsInnerSaying spot says → (is_monomial says ≡ true → n < limit spot) → IsEarly n says
-  below_early n (Monomial here) inner below = is_early n here (subst (λ s. n < limit s) (sym inner) (below refl))
-  below_early n says inner below = tt
-
-  inner_counted : (n : ℕ) (notes : List Note) → AllByRecursion (IsInner spot) notes → counted_on n notes ≡ n + count_that is_monomial notes
-  inner_counted n [] inner = omega arith
-  inner_counted n (x ∷ xs) inner =
-      inner_counted (one_further n x.says) xs inner.1
-      ∙ (ap (λ m. m + count_that is_monomial xs) (inner_further n x.says inner.0)
-      ∙ counted_first (is_monomial x.says) n (count_that is_monomial xs) (count_that is_monomial (x ∷ xs)) (first_more is_monomial x xs))
-
-  -- the last monomial stands below the limit
-  few_inner : (n : ℕ) (notes : List Note) → AllByRecursion (IsInner spot) notes → AreEarly n notes → 1 ≤ count_that is_monomial notes → n + count_that is_monomial notes ≤ limit spot
-  few_inner n [] inner early some = absurd (omega (arith, some))
-  few_inner n (x ∷ xs) inner early some =
-      few_first (is_monomial x.says) n (count_that is_monomial xs) (count_that is_monomial (x ∷ xs)) (limit spot) (first_more is_monomial x xs)
-      (early_below n x.says inner.0 early.0)
-      (subst (λ m. 1 ≤ count_that is_monomial xs → m + count_that is_monomial xs ≤ limit spot) (inner_further n x.says inner.0) (few_inner (one_further n x.says) xs inner.1 early.1)) some
-
-  early_inner : (n : ℕ) (notes : List Note) → AllByRecursion (IsInner spot) notes → (1 ≤ count_that is_monomial notes → n + count_that is_monomial notes ≤ limit spot) → AreEarly n notes
-  early_inner n [] inner few = tt
-  early_inner n (x ∷ xs) inner few =
-      let b = is_monomial x.says in
-      let c = count_that is_monomial xs in
-      let total = count_that is_monomial (x ∷ xs) in
-      let e = first_more is_monomial x xs in (
-        below_early n x.says inner.0 (first_below b n c total (limit spot) e few),
-        early_inner (one_further n x.says) xs inner.1
-            (subst (λ m. 1 ≤ c → m + c ≤ limit spot) (sym (inner_further n x.says inner.0)) (few_others b n c total (limit spot) e few)),
-      )
+  by : (says : Says) → IsInnerSaying spot says → count_that is_monomial (x ∷ xs) ≡ more (is_monomial says) c
+      → IsCounted spot (one_further n says) c (counted_on (one_further n says) xs) (AreEarly (one_further n says) xs)
+      → IsCounted spot n (count_that is_monomial (x ∷ xs)) (counted_on (one_further n says) xs) (IsEarly n says × AreEarly (one_further n says) xs)
+  by (Monomial here) is e rest = record {
+    counted = omega (arith, e, rest.counted);
+    few = λ early. omega (arith, e, subst (λ s. n < limit s) is (below_limit n here early.0), rest.few early.1);
+    early = λ few. (is_early n here (subst (λ s. n < limit s) (sym is) (omega (arith, e, few))), rest.early (omega (arith, e, few)));
+  }
+  by (Number times) is e rest = record { counted = omega (arith, e, rest.counted); few = λ early. omega (arith, e, rest.few early.1); early = λ few. (tt, rest.early (omega (arith, e, few))) }
+  by (Used brackets here scope) is e rest = record { counted = omega (arith, e, rest.counted); few = λ early. omega (arith, e, rest.few early.1); early = λ few. (tt, rest.early (omega (arith, e, few))) }
+  by says is e rest = absurd is
 
 -- parts of one index expression, with no more monomials
 pub alike_inner : (texts written : List (List ℕ)) (spot : Spot) (xs others : List Note) → AllByRecursion (IsInner spot) xs → AllByRecursion (IsInner spot) others
@@ -239,6 +204,7 @@ alike_inner texts written spot xs others inner_xs inner_others same small less =
   same = same;
   small = small;
   fewer = λ n m below early.
-      let few = few_inner spot n others inner_others early in
-      (early_inner spot m xs inner_xs (λ some. omega (arith, few (omega arith))), rw (inner_counted spot m xs inner_xs, inner_counted spot n others inner_others) (omega arith));
+      let these = inner_counted spot m xs inner_xs in
+      let those = inner_counted spot n others inner_others in
+      (these.early (omega (arith, those.few early)), rw (these.counted, those.counted) (omega arith));
 }

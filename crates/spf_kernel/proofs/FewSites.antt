@@ -2,7 +2,7 @@
 use Rattle.std.proofs.Common.{◌≡◌, ℕ, ◌+◌, ◌≤◌, Bool, true, false, List, [], ◌∷◌, ◌++◌, map, flat_map, cond, Option, None, Some, is_some, refl, ap, ◌∙◌, append-nil, arith}
 use Rattle.std.proofs.lemmas.List.Sums.{sum_by-append, sum_by-cons}
 use Rattle.std.specs.List.{sum_by}
-use Rattle.spf_kernel.specs.declared.token.Token.{Token}
+use Rattle.spf_lex.specs.declared.cursor.Token.{Token}
 use Rattle.spf_kernel.specs.declared.raw.RawIx.{RawIx}
 use Rattle.spf_kernel.specs.declared.raw.RawAtom.{out-RawAtom}
 use Rattle.spf_kernel.specs.declared.raw.RawValue.{RawValue, RawValue', Row_of-RawFactor, end_of-RawFactor, more_of-RawFactor, Row_of-RawSummand, end_of-RawSummand, more_of-RawSummand}
@@ -22,10 +22,8 @@ use Rattle.spf_kernel.specs.declared.note.Says.TheVariants.{Used, Variable, Guar
 use Rattle.spf_kernel.specs.declared.note.Says.TheVariants as says
 use Rattle.spf_kernel.specs.declared.note.Sort.TheVariants as sort_is
 use Rattle.spf_kernel.specs.declared.note.Spot.TheVariants as spot_is
-use Rattle.spf_kernel.specs.declared.tree.Factor.{Factor}
-use Rattle.spf_kernel.specs.declared.tree.Prod.{Prod}
 use Rattle.spf_kernel.specs.declared.tree.Tree.{Tree}
-use Rattle.spf_kernel.specs.Notes.{note, ix_head, body_notes, bound_notes, subscript_notes, value_notes, facts_notes, summands_notes, fact_notes, assign_notes, cond_notes, guard_notes, part_notes, item_notes, loop_notes, decl_notes, head_notes, kernel_notes}
+use Rattle.spf_kernel.specs.Notes.{note, conds_head, body_notes, bound_notes, subscript_notes, value_notes, facts_notes, summands_notes, fact_notes, assign_notes, cond_notes, guard_notes, part_notes, item_notes, loop_notes, decl_notes, head_notes, kernel_notes}
 use Rattle.spf_kernel.specs.Names.{Names, names_of}
 use Rattle.spf_kernel.specs.Parsed.{IsParsed}
 use Rattle.spf_kernel.specs.Resolved.{variable_of, bare_factor, factor_at, is_data_array, product, value_of, more_factors, more_prods, factor_of, assign_of, guard_of, part_of, item_of, loop_of, tree_of}
@@ -80,34 +78,31 @@ module _ (texts : List (List ℕ)) (names : Names) where
         let used = note name (Used true spot_is.Factor scope) in
         omega (arith, at_most_one (is_data_array texts names name) name ix refl, behind (note name says.Factor) (used ∷ body_notes scope ix), counted used (body_notes scope ix) refl)
 
-    summand_within : (first : RawFactor) {n : _} (facts : Row_of-RawFactor n) → fact_sites (factor_of texts names scope first) ≤ sites (fact_notes scope first)
-        → sum_by fact_sites (more_factors texts names scope facts) ≤ sites (facts_notes scope facts)
-        → sum_by fact_sites (factor_of texts names scope first ∷ more_factors texts names scope facts) ≤ sites (fact_notes scope first ++ facts_notes scope facts)
-    summand_within first facts here more =
-        omega (arith, sum_by-cons fact_sites (factor_of texts names scope first) (more_factors texts names scope facts), here, more, both (fact_notes scope first) (facts_notes scope facts))
-
-    sum_within : (minus : Bool) (facts : List Factor) (others : List Prod) (notes more : List Note) → sum_by fact_sites facts ≤ sites notes → sum_by prod_sites others ≤ sites more
-        → sum_by prod_sites (product minus facts ∷ others) ≤ sites (notes ++ more)
-    sum_within minus facts others notes more here behind = omega (arith, sum_by-cons prod_sites (product minus facts) others, here, behind, both notes more)
-
     mutual
       value_within : (value : RawValue) → value_sites (value_of texts names scope value) ≤ sites (value_notes scope value)
-      value_within (RawValue' minus first shape facts shape_of_others others) =
-          let facts_of = factor_of texts names scope first ∷ more_factors texts names scope facts in
-          let notes = fact_notes scope first ++ facts_notes scope facts in
-          rw (sum_sites_are (product minus facts_of ∷ more_prods texts names scope others))
-          (sum_within minus facts_of (more_prods texts names scope others) notes (summands_notes scope others)
-          (summand_within first facts (fact_within first) (facts_within facts)) (summands_within others))
+      value_within (RawValue' shape summands) = rw (sum_sites_are (more_prods texts names scope summands)) (summands_within summands)
 
       facts_within : {n : _} (row : Row_of-RawFactor n) → sum_by fact_sites (more_factors texts names scope row) ≤ sites (facts_notes scope row)
       facts_within end_of-RawFactor = omega arith
-      facts_within (more_of-RawFactor fact others) = summand_within fact others (fact_within fact) (facts_within others)
+      facts_within (more_of-RawFactor fact others) =
+          omega (
+            arith,
+            sum_by-cons fact_sites (factor_of texts names scope fact) (more_factors texts names scope others),
+            both (fact_notes scope fact) (facts_notes scope others),
+            fact_within fact,
+            facts_within others,
+          )
 
       summands_within : {n : _} (row : Row_of-RawSummand n) → sum_by prod_sites (more_prods texts names scope row) ≤ sites (summands_notes scope row)
       summands_within end_of-RawSummand = omega arith
-      summands_within (more_of-RawSummand minus first shape facts others) =
-          sum_within minus (factor_of texts names scope first ∷ more_factors texts names scope facts) (more_prods texts names scope others)
-          (fact_notes scope first ++ facts_notes scope facts) (summands_notes scope others) (summand_within first facts (fact_within first) (facts_within facts)) (summands_within others)
+      summands_within (more_of-RawSummand minus shape facts others) =
+          omega (
+            arith,
+            sum_by-cons prod_sites (product minus (more_factors texts names scope facts)) (more_prods texts names scope others),
+            both (facts_notes scope facts) (summands_notes scope others),
+            facts_within facts,
+            summands_within others,
+          )
 
       fact_within : (fact : RawFactor) → fact_sites (factor_of texts names scope fact) ≤ sites (fact_notes scope fact)
       fact_within (raw_factor.Number number) = omega arith
@@ -125,7 +120,7 @@ module _ (texts : List (List ℕ)) (names : Names) where
 
     guard_within : (guard : RawGuard) → guard_sites (guard_of texts names scope guard) ≤ sites (guard_notes scope guard)
     guard_within guard =
-        inside_last (note (ix_head guard.first.left) Guard ∷ cond_notes scope guard.first ++ flat_map (cond_notes scope) guard.others) (flat_map (assign_notes scope) guard.body)
+        inside_last (note (conds_head guard.conds) Guard ∷ flat_map (cond_notes scope) guard.conds) (flat_map (assign_notes scope) guard.body)
         (sums_within assign_sites (assign_of texts names scope) (assign_notes scope) assign_within guard.body)
 
     part_within : (part : RawPart) → part_sites (part_of texts names scope part) ≤ sites (part_notes scope part)

@@ -4,7 +4,7 @@ use Rattle.std.specs.Prelude.{if◌then◌else◌}
 use Rattle.std.specs.List.{AllByRecursion}
 use Rattle.std.proofs.lemmas.List.Elements.{All-from_recursion}
 use Rattle.spf_lex.proofs.Leaves.{split_each}
-use Rattle.spf_kernel.specs.declared.token.Token.{Token}
+use Rattle.spf_lex.specs.declared.cursor.Token.{Token}
 use Rattle.spf_kernel.specs.declared.note.Note.{Note}
 use Rattle.spf_kernel.specs.declared.note.Scope.{Scope}
 use Rattle.spf_kernel.specs.declared.note.Spot.TheVariants as spot_is
@@ -71,9 +71,9 @@ module _ (texts : List (List ℕ)) (notes : List Note) where
 
     guard_named : (x : RawGuard) → AreFitting texts notes (guard_notes scope x) → IsNamedGuard counts variables (guard_of texts names scope x)
     guard_named x each =
-        let parts = split_each (IsFitting texts notes) (cond_notes scope x.first ++ flat_map (cond_notes scope) x.others) (flat_map (assign_notes scope) x.body) each.1 in
+        let parts = split_each (IsFitting texts notes) (flat_map (cond_notes scope) x.conds) (flat_map (assign_notes scope) x.body) each.1 in
         record {
-          conds = each_named (IsNamedCond counts variables) (cond_notes scope) (cond_of texts names scope) cond_named (x.first ∷ x.others) parts.0;
+          conds = each_named (IsNamedCond counts variables) (cond_notes scope) (cond_of texts names scope) cond_named x.conds parts.0;
           body = each_named (IsNamedAssign counts variables) (assign_notes scope) (assign_of texts names scope) assign_named x.body parts.1;
         }
 
@@ -134,13 +134,13 @@ module _ (texts : List (List ℕ)) (notes : List Note) where
   head_named x each = term_named texts notes nothing 0 nothing_has spot_is.Head refl x each.1
 
   decl_named : (x : RawDecl) → AreFitting texts notes (decl_notes x) → IsNamedDecl counts (decl_of texts names x)
-  decl_named (raw_decl.Params first others) each = tt
+  decl_named (raw_decl.Params _) each = tt
   decl_named (raw_decl.Index array low high trend) each =
       let split = split_each (IsFitting texts notes) (head_notes array.size ++ head_notes low) (head_notes high) each.1 in
       let front = split_each (IsFitting texts notes) (head_notes array.size) (head_notes low) split.0 in
       (head_named array.size front.0, head_named low front.1, head_named high split.1)
-  decl_named (raw_decl.Values first others) each =
-      each_named (λ (array : DataDecl). IsNamedTerm counts 0 array.size) cells_notes (data_decl_of texts names) (λ x cells. head_named x.size cells.1) (first ∷ others) each
+  decl_named (raw_decl.Values arrays) each =
+      each_named (λ (array : DataDecl). IsNamedTerm counts 0 array.size) cells_notes (data_decl_of texts names) (λ x cells. head_named x.size cells.1) arrays each
 
   -- ---- the kernel
 

@@ -5,7 +5,7 @@ use Rattle.std.proofs.lemmas.List.{map-append}
 use Rattle.std.specs.List.{AllByRecursion}
 use Rattle.spf_lex.proofs.Leaves.{join_each}
 use Rattle.spf_term.specs.declared.term.Term.{Term}
-use Rattle.spf_kernel.specs.declared.token.Token.{Token}
+use Rattle.spf_lex.specs.declared.cursor.Token.{Token}
 use Rattle.spf_kernel.specs.declared.raw.RawIx.{RawIx}
 use Rattle.spf_kernel.specs.declared.raw.RawSized.{RawSized}
 use Rattle.spf_kernel.specs.declared.raw.RawItem.{RawItem}
@@ -160,13 +160,13 @@ module _ (texts : List (List ℕ)) (names : Names) (test : Says → Bool) (part 
       their_names (x ∷ xs) = ap (λ (ns : List (List ℕ)). text_of texts x.name ∷ ns) (their_names xs)
 
   decl_found : (x : RawDecl) → names_that texts test (decl_notes x) ≡ part (decl_of texts names x)
-  decl_found (Params first others) = marked (Declared sort_is.Param) (λ (token : Token). token) (first ∷ others) ∙ sym (kind.params (map (text_of texts) (first ∷ others)))
+  decl_found (Params params) = marked (Declared sort_is.Param) (λ (token : Token). token) params ∙ sym (kind.params (map (text_of texts) params))
   decl_found (Index array low high trend) =
       front_alone (note array.name (Declared sort_is.Index) ∷ []) (head_notes array.size ++ head_notes low ++ head_notes high)
       (join_each IsNone (head_notes array.size ++ head_notes low) (head_notes high) (join_each IsNone (head_notes array.size) (head_notes low) (head_none array.size) (head_none low)) (head_none high))
       ∙ marked (Declared sort_is.Index) (λ (array : RawSized). array.name) (array ∷ [])
       ∙ sym (kind.index (text_of texts array.name) _ _ _ trend)
-  decl_found (Values first others) = sized_found (first ∷ others) ∙ sym (kind.values (map (data_decl_of texts names) (first ∷ others)))
+  decl_found (Values arrays) = sized_found arrays ∙ sym (kind.values (map (data_decl_of texts names) arrays))
 
   decls_found : (xs : List RawDecl) → names_that texts test (flat_map decl_notes xs) ≡ flat_map part (map (decl_of texts names) xs)
   decls_found [] = refl

@@ -1,12 +1,12 @@
 -- Where all used names fit, index expressions and values are named.
-use Rattle.std.proofs.Common.{◌≡◌, ℕ, ◌<◌, Bool, true, false, List, [], ◌∷◌, ◌++◌, length, Option, None, Some, is_some, refl, subst}
+use Rattle.std.proofs.Common.{◌≡◌, ℕ, ◌<◌, Bool, true, false, List, [], length, Option, None, Some, is_some, refl, subst}
 use Rattle.std.specs.Prelude.{ℤ, if◌then◌else◌}
 use Rattle.std.specs.List.{AllByRecursion}
 use Rattle.spf_base.specs.Wrap.{wrap}
 use Rattle.spf_lex.proofs.Leaves.{split_each, join_each}
 use Rattle.spf_term.specs.declared.term.Term.{Term, Term', out-Term, roll-Term, out-roll-Term, Row_of-Mono, end_of-Mono, more_of-Mono, items-the_row-Mono, items_shown-the_row-Mono-0}
 use Rattle.spf_term.specs.declared.term.Mono.{Mono}
-use Rattle.spf_kernel.specs.declared.token.Token.{Token}
+use Rattle.spf_lex.specs.declared.cursor.Token.{Token}
 use Rattle.spf_kernel.specs.declared.note.Note.{Note}
 use Rattle.spf_kernel.specs.declared.note.Spot.{Spot}
 use Rattle.spf_kernel.specs.declared.note.Spot.TheVariants as spot_is
@@ -24,7 +24,7 @@ use Rattle.spf_kernel.specs.declared.tree.Factor.TheVariants as factor
 use Rattle.spf_kernel.specs.Names.{Names, names_of}
 use Rattle.spf_kernel.specs.Named.{NameCounts, IsNamedTerm, AreNamedMonos, IsNamedAtom, IsNamedValue, AreNamedProds, AreNamedFactors, IsNamedFactor}
 use Rattle.spf_kernel.specs.Notes.{ix_notes, steps_notes, mono_notes, atom_notes, value_notes, facts_notes, summands_notes, fact_notes, body_notes, subscript_notes}
-use Rattle.spf_kernel.specs.Resolved.{constant_of, variable_of, table_of, data_array_of, is_data_array, bare_atom, bare_factor, term_of, more_monos, monos_of, atom_of, factor_at, value_of, more_factors, more_prods, factor_of, product}
+use Rattle.spf_kernel.specs.Resolved.{constant_of, variable_of, table_of, data_array_of, is_data_array, bare_atom, bare_factor, term_of, more_monos, monos_of, atom_of, factor_at, value_of, more_factors, more_prods, factor_of}
 use Rattle.spf_kernel.specs.Rules.{takes_data, fits}
 use Rattle.spf_kernel.proofs.FittingNames.{IsBare, bare_fits, table_fits, IsEntry, entry_fits}
 use Rattle.spf_kernel.proofs.NamedUses.{AreFitting, IsFitting}
@@ -102,16 +102,13 @@ module _ (texts : List (List ℕ)) (notes : List Note) (scope : Scope) (variable
   module _ (spot : Spot) (no_data : takes_data texts spot ≡ false) where
     mutual
       pub term_named : (x : RawIx) → AreFitting texts notes (ix_notes spot scope x) → IsNamedTerm counts variables (term_of texts names scope x)
-      term_named (RawIx' lead first shape others) each =
-          let parts = split_each (IsFitting texts notes) (mono_notes spot scope first) (steps_notes spot scope others) each in
-          rolled_term counts variables (monos_of texts names scope (is_some lead) first ++ more_monos texts names scope others) (wrap (constant_of (RawIx' lead first shape others)))
-          (join_each (IsNamedMono counts variables) (monos_of texts names scope (is_some lead) first) (more_monos texts names scope others) (mono_named (is_some lead) first parts.0) (steps_named others parts.1))
+      term_named (RawIx' shape steps) each = rolled_term counts variables (more_monos texts names scope steps) (wrap (constant_of (RawIx' shape steps))) (steps_named steps each)
 
       steps_named : {n : _} (row : Row_of-RawStep n) → AreFitting texts notes (steps_notes spot scope row) → AllByRecursion (IsNamedMono counts variables) (more_monos texts names scope row)
       steps_named end_of-RawStep each = tt
       steps_named (more_of-RawStep minus mono others) each =
           let parts = split_each (IsFitting texts notes) (mono_notes spot scope mono) (steps_notes spot scope others) each in
-          join_each (IsNamedMono counts variables) (monos_of texts names scope minus mono) (more_monos texts names scope others) (mono_named minus mono parts.0) (steps_named others parts.1)
+          join_each (IsNamedMono counts variables) (monos_of texts names scope (is_some minus) mono) (more_monos texts names scope others) (mono_named (is_some minus) mono parts.0) (steps_named others parts.1)
 
       mono_named : (minus : Bool) (x : RawMono) → AreFitting texts notes (mono_notes spot scope x) → AllByRecursion (IsNamedMono counts variables) (monos_of texts names scope minus x)
       mono_named minus (Number' number RawMono-Number-1-None') each = tt
@@ -140,11 +137,7 @@ module _ (texts : List (List ℕ)) (notes : List Note) (scope : Scope) (variable
 
   mutual
     pub value_named : (x : RawValue) → AreFitting texts notes (value_notes scope x) → IsNamedValue counts variables (value_of texts names scope x)
-    value_named (RawValue' minus first shape facts shape_of_others others) each =
-        let parts = split_each (IsFitting texts notes) (fact_notes scope first ++ facts_notes scope facts) (summands_notes scope others) each in
-        let here = split_each (IsFitting texts notes) (fact_notes scope first) (facts_notes scope facts) parts.0 in
-        rolled_value counts variables (product minus (factor_of texts names scope first ∷ more_factors texts names scope facts) ∷ more_prods texts names scope others)
-        ((fact_named first here.0, facts_named facts here.1), summands_named others parts.1)
+    value_named (RawValue' shape summands) each = rolled_value counts variables (more_prods texts names scope summands) (summands_named summands each)
 
     facts_named : {n : _} (row : Row_of-RawFactor n) → AreFitting texts notes (facts_notes scope row) → AllByRecursion (IsNamedFactor counts variables) (more_factors texts names scope row)
     facts_named end_of-RawFactor each = tt
@@ -154,10 +147,9 @@ module _ (texts : List (List ℕ)) (notes : List Note) (scope : Scope) (variable
 
     summands_named : {n : _} (row : Row_of-RawSummand n) → AreFitting texts notes (summands_notes scope row) → AllByRecursion (IsNamedProd counts variables) (more_prods texts names scope row)
     summands_named end_of-RawSummand each = tt
-    summands_named (more_of-RawSummand minus first shape facts others) each =
-        let parts = split_each (IsFitting texts notes) (fact_notes scope first ++ facts_notes scope facts) (summands_notes scope others) each in
-        let here = split_each (IsFitting texts notes) (fact_notes scope first) (facts_notes scope facts) parts.0 in
-        ((fact_named first here.0, facts_named facts here.1), summands_named others parts.1)
+    summands_named (more_of-RawSummand minus shape facts others) each =
+        let parts = split_each (IsFitting texts notes) (facts_notes scope facts) (summands_notes scope others) each in
+        (facts_named facts parts.0, summands_named others parts.1)
 
     fact_named : (x : RawFactor) → AreFitting texts notes (fact_notes scope x) → IsNamedFactor counts variables (factor_of texts names scope x)
     fact_named (raw_factor.Number number) each = tt

@@ -2,7 +2,7 @@
 use Rattle.std.proofs.Common.{◌≡◌, ℕ, zero, suc, ◌<◌, Bool, List, [], ◌∷◌, ◌++◌, length, map, flat_map, get_or, All, arith, sym, subst}
 use Rattle.std.proofs.lemmas.Grind.{common_steps}
 use Rattle.spf_base.specs.Word.{IsName}
-use Rattle.spf_kernel.specs.declared.token.Token.{Token}
+use Rattle.spf_lex.specs.declared.cursor.Token.{Token}
 use Rattle.spf_kernel.specs.declared.note.Note.{Note}
 use Rattle.spf_kernel.specs.declared.note.Says.{Says}
 use Rattle.spf_kernel.specs.Rules.{text_of, tokens_that, is_naming}
@@ -41,7 +41,7 @@ module _ (texts : List (List ℕ)) where
   pub names_at : {X : Type 0} (notes : X → List Note) (xs : List X) (i : ℕ) (x : X) → i < length xs → x ≡ get_or xs i x → AreNames texts (flat_map notes xs) → AreNames texts (notes x)
   names_at notes xs i x l e h = subst (λ y. AreNames texts (notes y)) (sym e) (at notes xs i x l h)
 
-  pub param_at : (first : Token) (others : List Token) (i : ℕ) (d : Token) → i < length others → AreNames texts (map param_note (first ∷ others)) → IsName (text_of texts (get_or others i d))
-  param_at first (token ∷ others) zero d l h = h 1 d (omega arith)
-  param_at first (token ∷ others) (suc i) d l h = param_at token others i d (omega arith) (λ k e m. h (suc k) e (omega arith))
-  param_at first [] i d l h = absurd (omega arith)
+  pub param_at : (names : List Token) (i : ℕ) (d : Token) → i < length names → AreNames texts (map param_note names) → IsName (text_of texts (get_or names i d))
+  param_at [] i d l h = absurd (omega arith)
+  param_at (token ∷ names) zero d l h = h 0 d (omega arith)
+  param_at (token ∷ names) (suc i) d l h = param_at names i d (omega arith) (λ k e m. h (suc k) e (omega arith))

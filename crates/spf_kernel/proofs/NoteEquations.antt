@@ -11,8 +11,7 @@ use Rattle.spf_kernel.specs.declared.raw.RawValue.{RawValue, out-RawValue, RawVa
 use Rattle.spf_kernel.specs.declared.raw.RawSummand.{RawSummand}
 use Rattle.spf_kernel.specs.declared.raw.RawFactor.{RawFactor, Paren', Row_of-RawValue, end_of-RawValue, more_of-RawValue}
 use Rattle.spf_kernel.specs.declared.raw.RawFactor.TheVariants.{Paren}
-use Rattle.spf_kernel.specs.declared.raw.RawFactor.TheBlock.{shown-the_row-RawFactor-1}
-use Rattle.spf_kernel.specs.Notes.{note, ix_notes, steps_notes, mono_notes, atom_notes, value_notes, facts_notes, summands_notes, fact_notes, prod_notes}
+use Rattle.spf_kernel.specs.Notes.{note, ix_notes, steps_notes, mono_notes, atom_notes, value_notes, facts_notes, summands_notes, fact_notes}
 
 module _ (spot : Spot) (scope : Scope) where
   abbrev pub step_notes : RawStep → List Note
@@ -22,10 +21,9 @@ module _ (spot : Spot) (scope : Scope) where
   steps_are end_of-RawStep = refl
   steps_are (more_of-RawStep minus mono others) = ap (λ (notes : List Note). mono_notes spot scope mono ++ notes) (steps_are others)
 
-  pub ix_notes_are : (ix : RawIx) → ix_notes spot scope ix ≡ mono_notes spot scope (out-RawIx ix).first ++ flat_map step_notes (out-RawIx ix).others
+  pub ix_notes_are : (ix : RawIx) → ix_notes spot scope ix ≡ flat_map step_notes (out-RawIx ix).steps
   unfolding out-RawIx denote.Hole.Carrier.out
-  ix_notes_are (RawIx' lead first shape others) =
-      ap (λ (notes : List Note). mono_notes spot scope first ++ notes) (steps_are others ∙ ap (flat_map step_notes) (sym (items_shown-the_row-RawStep-1 shape others)))
+  ix_notes_are (RawIx' shape steps) = steps_are steps ∙ ap (flat_map step_notes) (sym (items_shown-the_row-RawStep-1 shape steps))
 
   -- what stands in the brackets behind a name
   abbrev pub at_notes : Option RawIx → List Note
@@ -43,23 +41,17 @@ module _ (scope : Scope) where
   facts_are (more_of-RawFactor fact others) = ap (λ (notes : List Note). fact_notes scope fact ++ notes) (facts_are others)
 
   abbrev pub summand_notes : RawSummand → List Note
-  summand_notes summand = prod_notes scope summand.prod
-
-  prod_are : (first : RawFactor) (shape : _) (facts : Row_of-RawFactor _) → fact_notes scope first ++ facts_notes scope facts ≡ prod_notes scope (record { first = first; others = shown-the_row-RawFactor-1 shape facts })
-  prod_are first shape facts = ap (λ (notes : List Note). fact_notes scope first ++ notes) (facts_are facts ∙ ap (flat_map (fact_notes scope)) (sym (items_shown-the_row-RawFactor-1 shape facts)))
+  summand_notes summand = flat_map (fact_notes scope) summand.facts
 
   summands_are : {n : _} (row : Row_of-RawSummand n) → summands_notes scope row ≡ flat_map summand_notes (items-the_row-RawSummand n row)
   summands_are end_of-RawSummand = refl
-  summands_are (more_of-RawSummand minus first shape facts others) =
-      ap (λ (notes : List Note). notes ++ summands_notes scope others) (prod_are first shape facts)
-      ∙ ap (λ (notes : List Note). prod_notes scope (record { first = first; others = shown-the_row-RawFactor-1 shape facts }) ++ notes) (summands_are others)
+  summands_are (more_of-RawSummand minus shape facts others) =
+      let shown = facts_are facts ∙ ap (flat_map (fact_notes scope)) (sym (items_shown-the_row-RawFactor-1 shape facts)) in
+      λ i. shown i ++ summands_are others i
 
-  pub value_notes_are : (value : RawValue) → value_notes scope value ≡ prod_notes scope (out-RawValue value).first ++ flat_map summand_notes (out-RawValue value).others
+  pub value_notes_are : (value : RawValue) → value_notes scope value ≡ flat_map summand_notes (out-RawValue value).summands
   unfolding out-RawValue denote.Hole.Carrier.out
-  value_notes_are (RawValue' minus first shape facts shape_of_others others) =
-      ap (λ (notes : List Note). notes ++ summands_notes scope others) (prod_are first shape facts)
-      ∙ ap (λ (notes : List Note). prod_notes scope (record { first = first; others = shown-the_row-RawFactor-1 shape facts }) ++ notes)
-      (summands_are others ∙ ap (flat_map summand_notes) (sym (items_shown-the_row-RawSummand-2 shape_of_others others)))
+  value_notes_are (RawValue' shape summands) = summands_are summands ∙ ap (flat_map summand_notes) (sym (items_shown-the_row-RawSummand-2 shape summands))
 
   pub paren_notes_are : (value : RawValue) → fact_notes scope (Paren value) ≡ value_notes scope value
   unfolding Rattle.spf_kernel.specs.declared.raw.RawFactor.TheBlock.hidden-the_row-RawValue-0 denote.Hole.Carrier.hidden

@@ -35,7 +35,7 @@ module _ (P : Note → Type 0) (none : (note : Note) → is_naming note.says ≡
   module _ (spot : Spot) (scope : Scope) where
     mutual
       ix_each : (x : RawIx) → AllByRecursion P (ix_notes spot scope x)
-      ix_each (RawIx' lead first shape others) = both (mono_notes spot scope first) (steps_notes spot scope others) (mono_each first) (steps_each others)
+      ix_each (RawIx' shape steps) = steps_each steps
 
       steps_each : {n : _} (row : Row_of-RawStep n) → AllByRecursion P (steps_notes spot scope row)
       steps_each end_of-RawStep = tt
@@ -69,9 +69,7 @@ module _ (P : Note → Type 0) (none : (note : Note) → is_naming note.says ≡
 
     mutual
       value_each : (x : RawValue) → AllByRecursion P (value_notes scope x)
-      value_each (RawValue' minus first shape facts shape_of_others others) =
-          both (fact_notes scope first ++ facts_notes scope facts) (summands_notes scope others)
-          (both (fact_notes scope first) (facts_notes scope facts) (fact_each first) (facts_each facts)) (summands_each others)
+      value_each (RawValue' shape summands) = summands_each summands
 
       facts_each : {n : _} (row : Row_of-RawFactor n) → AllByRecursion P (facts_notes scope row)
       facts_each end_of-RawFactor = tt
@@ -79,9 +77,7 @@ module _ (P : Note → Type 0) (none : (note : Note) → is_naming note.says ≡
 
       summands_each : {n : _} (row : Row_of-RawSummand n) → AllByRecursion P (summands_notes scope row)
       summands_each end_of-RawSummand = tt
-      summands_each (more_of-RawSummand minus first shape facts others) =
-          both (fact_notes scope first ++ facts_notes scope facts) (summands_notes scope others)
-          (both (fact_notes scope first) (facts_notes scope facts) (fact_each first) (facts_each facts)) (summands_each others)
+      summands_each (more_of-RawSummand minus shape facts others) = both (facts_notes scope facts) (summands_notes scope others) (facts_each facts) (summands_each others)
 
       fact_each : (x : RawFactor) → AllByRecursion P (fact_notes scope x)
       fact_each (factor_is.Number number) = (none _ refl, tt)
@@ -103,8 +99,8 @@ module _ (P : Note → Type 0) (none : (note : Note) → is_naming note.says ≡
     guard_each : (x : RawGuard) → AllByRecursion P (guard_notes scope x)
     guard_each x = (
       none _ refl,
-      both (cond_notes scope x.first ++ flat_map (cond_notes scope) x.others) (flat_map (assign_notes scope) x.body)
-          (both (cond_notes scope x.first) (flat_map (cond_notes scope) x.others) (cond_each x.first) (each_of_flat_map P (cond_notes scope) cond_each x.others))
+      both (flat_map (cond_notes scope) x.conds) (flat_map (assign_notes scope) x.body)
+          (each_of_flat_map P (cond_notes scope) cond_each x.conds)
           (each_of_flat_map P (assign_notes scope) assign_each x.body),
     )
 

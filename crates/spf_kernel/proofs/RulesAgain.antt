@@ -1,12 +1,12 @@
 -- Notes that are alike have the names of the others and break no rule if those break none, and each note that breaks none is kept.
-use Rattle.std.proofs.Common.{◌≡◌, ℕ, zero, suc, Bool, true, false, cond, List, [], ◌∷◌, ◌++◌, length, Some, slice_get, refl, ap, sym, ◌∙◌, subst, ◌⊎◌, inl, inr, true≢false, append_assoc, append-nil, length-append, arith}
-use Rattle.std.specs.Prelude.{option_map}
+use Rattle.std.proofs.Common.{◌≡◌, ℕ, zero, suc, Bool, true, false, cond, List, [], ◌∷◌, ◌++◌, Some, slice_get, refl, ap, sym, ◌∙◌, subst, ◌⊎◌, inl, inr, true≢false, append_assoc, append-nil, arith}
+use Rattle.std.specs.Prelude.{⊤, option_map}
 use Rattle.std.specs.List.{AllByRecursion}
 use Rattle.std.proofs.lemmas.Bool.{leb-false, ltb-false, le-ltb, lt-leb}
 use Rattle.std.proofs.lemmas.Option.{slice_get-map}
 use Rattle.std.specs.Option.{unwrap_or}
 use Rattle.spf_lex.proofs.Leaves.{split_each}
-use Rattle.spf_kernel.specs.declared.token.Token.{Token}
+use Rattle.spf_lex.specs.declared.cursor.Token.{Token}
 use Rattle.spf_kernel.specs.declared.note.Note.{Note}
 use Rattle.spf_kernel.specs.declared.note.Says.{Says}
 use Rattle.spf_kernel.specs.declared.note.Says.TheVariants.{Number, Expression, Monomial}
@@ -20,7 +20,7 @@ use Rattle.spf_kernel.proofs.Counting.{more, since_more}
 use Rattle.spf_kernel.proofs.NamedUses.{IsFitting, all_fit}
 use Rattle.spf_kernel.proofs.Told.{Told, tells, told, IsWithin, IsSmall, one_further, counted_on, IsEarly, AreEarly, Alike, AreKept}
 use Rattle.spf_kernel.proofs.ToldNames.{Seen, seen_in, seen_told}
-use Rattle.spf_kernel.proofs.ToldRules.{first, breaches, AreNone, kept_rules, told_breaches, breaches_told}
+use Rattle.spf_kernel.proofs.ToldRules.{breaches, AreNone, kept_rules, told_breaches, breaches_told}
 use Rattle.spf_kernel.proofs.Unbroken.{unbroken_parts}
 
 -- ---- names
@@ -74,6 +74,22 @@ monomials_on seen (note ∷ rest) =
 
 -- ---- each note of a source
 
+-- a note tells nothing, or one thing
+tells_one : (texts : List (List ℕ)) (token : Token) (says : Says) → (tells texts token says ≡ []) ⊎ ((t : Told) × (tells texts token says ≡ t ∷ []))
+tells_one texts token (Number times) = inl refl
+tells_one texts token (Monomial spot) = inl refl
+tells_one texts token says = inr (_, refl)
+
+-- behind these, none of what is told breaks a rule
+abbrev AreSound : List Told → List Told → Type 0
+AreSound front [] = ⊤
+AreSound front (t ∷ ts) = AreNone (told_breaches (seen_in front) t) × AreSound (front ++ t ∷ []) ts
+
+sound_there : (front before : List Told) (t : Told) (after : List Told) → AreSound front (before ++ t ∷ after) → AreNone (told_breaches (seen_in (front ++ before)) t)
+sound_there front [] t after sound = rw append-nil sound.0
+sound_there front (x ∷ before) t after sound =
+    subst (λ seen. AreNone (told_breaches (seen_in seen) t)) (append_assoc front (x ∷ []) before) (sound_there (front ++ x ∷ []) before t after sound.1)
+
 module _ (texts : List (List ℕ)) (notes : List Note) (unbroken : IsUnbroken texts notes) where
   keeps_at : (before : List Note) (note : Note) (after : List Note) → notes ≡ before ++ note ∷ after → KeepsRules texts before note
   keeps_at = unbroken_parts texts notes unbroken
@@ -95,62 +111,22 @@ module _ (texts : List (List ℕ)) (notes : List Note) (unbroken : IsUnbroken te
     kept_rest (seen ++ note ∷ []) rest (behind seen note rest split) fit.1,
   )
 
+  sound_rest : (seen rest : List Note) → notes ≡ seen ++ rest → AreSound (told texts seen) (told texts rest)
+  sound_rest seen [] split = tt
+  sound_rest seen (note ∷ rest) split = by (tells_one texts note.token note.says) (sound_rest (seen ++ note ∷ []) rest (behind seen note rest split)) where
+    more : (ts : List Told) → tells texts note.token note.says ≡ ts → told texts (seen ++ note ∷ []) ≡ told texts seen ++ ts
+    more ts e = told_append texts seen (note ∷ []) ∙ ap (λ (here : List Told). told texts seen ++ here) (append-nil (tells texts note.token note.says) ∙ e)
+
+    by : (tells texts note.token note.says ≡ []) ⊎ ((t : Told) × (tells texts note.token note.says ≡ t ∷ [])) → AreSound (told texts (seen ++ note ∷ [])) (told texts rest) → AreSound (told texts seen) (told texts (note ∷ rest))
+    by (inl none) others = rw none (subst (λ (front : List Told). AreSound front (told texts rest)) (more [] none ∙ append-nil (told texts seen)) others)
+    by (inr (t, one)) others = rw one (
+      subst AreNone (breaches_told texts seen note.token note.says t one ∙ ap (λ seen. told_breaches seen t) (seen_told texts seen)) (kept_rules texts seen note (keeps_at seen note rest split)),
+      subst (λ (front : List Told). AreSound front (told texts rest)) (more (t ∷ []) one) others,
+    )
+
 -- each used name fits, and each number is within its limit
 pub all_kept : (texts : List (List ℕ)) (notes : List Note) → IsUnbroken texts notes → AreKept texts notes notes
 all_kept texts notes unbroken = kept_rest texts notes unbroken [] notes refl (all_fit texts notes unbroken)
-
--- ---- the note that tells this
-
-record SplitsAt (texts : List (List ℕ)) (notes : List Note) (front : List Told) (t : Told) : Type 0 where
-  before : List Note
-  note : Note
-  after : List Note
-  splits : notes ≡ before ++ note ∷ after
-  front_is : told texts before ≡ front
-  here : tells texts note.token note.says ≡ t ∷ []
-
--- a note tells nothing, or one thing
-tells_one : (texts : List (List ℕ)) (token : Token) (says : Says) → (tells texts token says ≡ []) ⊎ ((t : Told) × (tells texts token says ≡ t ∷ []))
-tells_one texts token (Number times) = inl refl
-tells_one texts token (Monomial spot) = inl refl
-tells_one texts token says = inr (_, refl)
-
-tail_same : {X : Type 0} {x y : X} {xs ys : List X} → x ∷ xs ≡ y ∷ ys → xs ≡ ys
-tail_same e = cc
-
-none_there : {X : Type 0} (xs : List X) (y : X) (ys : List X) → [] ≡ xs ++ y ∷ ys → ⊥
-none_there xs y ys e = omega (arith, ap length e, length-append xs (y ∷ ys))
-
-module _ (texts : List (List ℕ)) (t : Told) (back : List Told) where
-  split_told : (notes : List Note) (front : List Told) → told texts notes ≡ front ++ t ∷ back → SplitsAt texts notes front t
-  split_told [] front e = absurd (none_there front t back e)
-  split_told (note ∷ notes) front e = by (tells_one texts note.token note.says) front e (split_told notes) where
-    by : (tells texts note.token note.says ≡ []) ⊎ ((x : Told) × (tells texts note.token note.says ≡ x ∷ [])) → (front : List Told) → told texts (note ∷ notes) ≡ front ++ t ∷ back
-        → ((front : List Told) → told texts notes ≡ front ++ t ∷ back → SplitsAt texts notes front t) → SplitsAt texts (note ∷ notes) front t
-    by (inl none) front e others =
-        let r = others front (ap (λ h. h ++ told texts notes) (sym none) ∙ e) in
-        record {
-          before = note ∷ r.before;
-          note = r.note;
-          after = r.after;
-          splits = ap (λ xs. note ∷ xs) r.splits;
-          front_is = ap (λ h. h ++ told texts r.before) none ∙ r.front_is;
-          here = r.here;
-        }
-    by (inr (x, one)) [] e others =
-        let same = ap (λ h. h ++ told texts notes) (sym one) ∙ e in
-        record { before = []; note = note; after = notes; splits = refl; front_is = refl; here = one ∙ ap (λ y. y ∷ []) (first same) }
-    by (inr (x, one)) (y ∷ front) e others =
-        let same = ap (λ h. h ++ told texts notes) (sym one) ∙ e in
-        let r = others front (tail_same same) in
-        record {
-          before = note ∷ r.before;
-          note = r.note;
-          after = r.after;
-          splits = ap (λ xs. note ∷ xs) r.splits;
-          front_is = ap (λ h. h ++ told texts r.before) one ∙ (λ i. first same i ∷ r.front_is i);
-          here = r.here;
-        }
 
 -- ---- the rules again
 
@@ -173,14 +149,12 @@ module _ (texts written : List (List ℕ)) (others notes : List Note) (alike : A
         let there = early_split 0 before (here ∷ after) (subst (AreEarly 0) split all.0) in
         subst (λ n. IsEarly n says) (sym (monomials_on [] before)) there.1.0
 
-    -- the note of the others that tells the same breaks none, and what is told says whether one is broken
+    -- what is told says whether a rule is broken, and the others tell the same
     none_by_told : (t : Told) → tells written token says ≡ t ∷ [] → AreNone (breaches written before token says)
     none_by_told t one =
         let same = sym alike.same ∙ (ap (told written) split ∙ (told_append written before (here ∷ after) ∙ ap (λ h. told written before ++ (h ++ told written after)) one)) in
-        let s = split_told texts t (told written after) others (told written before) same in
-        let seen = seen_told written before ∙ (ap seen_in (sym s.front_is) ∙ sym (seen_told texts s.before)) in
-        let equal = breaches_told written before token says t one ∙ (ap (λ seen. told_breaches seen t) seen ∙ sym (breaches_told texts s.before s.note.token s.note.says t s.here)) in
-        subst AreNone (sym equal) (kept_rules texts s.before s.note (unbroken_parts texts others unbroken s.before s.note s.after s.splits))
+        let sound = sound_there [] (told written before) t (told written after) (subst (AreSound []) same (sound_rest texts others unbroken [] others refl)) in
+        subst AreNone (sym (breaches_told written before token says t one ∙ ap (λ seen. told_breaches seen t) (seen_told written before))) sound
 
   none_broken : (before : List Note) (token : Token) (says : Says) (after : List Note) → notes ≡ before ++ record { token = token; says = says } ∷ after
       → AreNone (breaches written before token says)

@@ -5,7 +5,7 @@ use Rattle.spf_term.specs.declared.term.Term.{Term, roll-Term}
 use Rattle.spf_term.specs.declared.term.Mono.{Mono}
 use Rattle.spf_term.specs.declared.term.Atom.{Atom}
 use Rattle.spf_term.specs.declared.term.Atom.TheVariants as atom
-use Rattle.spf_kernel.specs.declared.token.Token.{Token}
+use Rattle.spf_lex.specs.declared.cursor.Token.{Token}
 use Rattle.spf_kernel.specs.declared.note.Scope.{Scope}
 use Rattle.spf_kernel.specs.declared.raw.RawIx.{RawIx, out-RawIx, RawIx', Row_of-RawStep, end_of-RawStep, more_of-RawStep, items-the_row-RawStep, items_shown-the_row-RawStep-1}
 use Rattle.spf_kernel.specs.declared.raw.RawStep.{RawStep}
@@ -15,19 +15,18 @@ use Rattle.spf_kernel.specs.Resolved.{constant_of, variable_of, table_of, bare_a
 
 module _ (texts : List (List ℕ)) (names : Names) (scope : Scope) where
   abbrev pub step_monos : RawStep → List Mono
-  step_monos step = monos_of texts names scope step.minus step.mono
+  step_monos step = monos_of texts names scope (is_some step.minus) step.mono
 
   more_are : {n : _} (row : Row_of-RawStep n) → more_monos texts names scope row ≡ flat_map step_monos (items-the_row-RawStep n row)
   more_are end_of-RawStep = refl
-  more_are (more_of-RawStep minus mono others) = ap (λ (monos : List Mono). monos_of texts names scope minus mono ++ monos) (more_are others)
+  more_are (more_of-RawStep minus mono others) = ap (λ (monos : List Mono). monos_of texts names scope (is_some minus) mono ++ monos) (more_are others)
 
   abbrev pub term_with : RawIx → List Mono → Term
   term_with ix monos = roll-Term (record { monos = monos; constant = wrap (constant_of ix) })
 
-  pub term_is : (ix : RawIx) → term_of texts names scope ix ≡ term_with ix (monos_of texts names scope (is_some (out-RawIx ix).lead) (out-RawIx ix).first ++ flat_map step_monos (out-RawIx ix).others)
+  pub term_is : (ix : RawIx) → term_of texts names scope ix ≡ term_with ix (flat_map step_monos (out-RawIx ix).steps)
   unfolding out-RawIx denote.Hole.Carrier.out
-  term_is (RawIx' lead first shape others) =
-      ap (λ (monos : List Mono). term_with (RawIx' lead first shape others) (monos_of texts names scope (is_some lead) first ++ monos)) (more_are others ∙ ap (flat_map step_monos) (sym (items_shown-the_row-RawStep-1 shape others)))
+  term_is (RawIx' shape steps) = ap (term_with (RawIx' shape steps)) (more_are steps ∙ ap (flat_map step_monos) (sym (items_shown-the_row-RawStep-1 shape steps)))
 
   -- a name with what stands in the brackets behind it
   abbrev pub atom_at : Token → Option RawIx → Atom

@@ -4,7 +4,7 @@ use Rattle.std.specs.Prelude.{option_map}
 use Rattle.std.specs.List.{list_any, AllByRecursion}
 use Rattle.std.specs.Str.{bytes_eq}
 use Rattle.std.specs.Char.{is_ascii_uppercase}
-use Rattle.spf_kernel.specs.declared.token.Token.{Token}
+use Rattle.spf_lex.specs.declared.cursor.Token.{Token}
 use Rattle.spf_kernel.specs.declared.note.Note.{Note}
 use Rattle.spf_kernel.specs.declared.note.Says.{Says}
 use Rattle.spf_kernel.specs.declared.note.Says.TheVariants.{Declared, Variable, Used, Number, Monomial, Factor, Condition}
@@ -52,25 +52,25 @@ may_stand known true spot = (takes_table [] spot && known.table) || (takes_data 
 may_stand known false spot = in_scope known || known.param
 
 abbrev late_name : Seen → Sort → Bool
-late_name seen Param = nat_le 64 seen.count_params
+late_name seen Param = nat_le 64 seen.counts.params
 late_name seen Loop = false
-late_name seen array = nat_le 64 (seen.count_tables + seen.count_data)
+late_name seen array = nat_le 64 (seen.counts.tables + seen.counts.data_arrays)
 
 abbrev used_breaches : Known → Seen → Bool → Bool → Bool → List Bool
 used_breaches known seen may target site =
     false ∷ false ∷ not (known.declared || in_scope known) ∷ ((known.declared || in_scope known) && not may) ∷ false ∷ false ∷ false
-    ∷ (target && nat_le 16 seen.targets) ∷ false ∷ false ∷ (site && nat_le 256 seen.sites) ∷ []
+    ∷ (target && nat_le 16 seen.counts.targets) ∷ false ∷ false ∷ (site && nat_le 256 seen.counts.sites) ∷ []
 
 -- the breaches of a note that is told, by how its name is known
 abbrev breaches_by : Known → Seen → Says → List ℕ → List Bool
 breaches_by known seen (Declared sort) name =
-    list_any is_ascii_uppercase name ∷ (known.declared || false) ∷ false ∷ false ∷ false ∷ late_name seen sort ∷ (is_loop (Declared sort) && nat_le 32 seen.count_loops) ∷ false ∷ false ∷ false ∷ false ∷ []
+    list_any is_ascii_uppercase name ∷ (known.declared || false) ∷ false ∷ false ∷ false ∷ late_name seen sort ∷ (is_loop (Declared sort) && nat_le 32 seen.counts.loops) ∷ false ∷ false ∷ false ∷ false ∷ []
 breaches_by known seen (Variable outer) name =
     list_any is_ascii_uppercase name ∷ (known.declared || known.outer) ∷ false ∷ false ∷ false ∷ false ∷ false ∷ false ∷ false ∷ false ∷ false ∷ []
 breaches_by known seen (Used brackets spot scope) name =
     used_breaches known seen (may_stand known brackets spot) (is_target (Used brackets spot scope)) (is_site (Used brackets spot scope))
-breaches_by known seen Factor name = false ∷ false ∷ false ∷ false ∷ false ∷ false ∷ false ∷ false ∷ nat_le 64 seen.factors ∷ false ∷ false ∷ []
-breaches_by known seen Condition name = false ∷ false ∷ false ∷ false ∷ false ∷ false ∷ false ∷ false ∷ false ∷ nat_le 4 seen.conditions ∷ false ∷ []
+breaches_by known seen Factor name = false ∷ false ∷ false ∷ false ∷ false ∷ false ∷ false ∷ false ∷ nat_le 64 seen.counts.factors ∷ false ∷ false ∷ []
+breaches_by known seen Condition name = false ∷ false ∷ false ∷ false ∷ false ∷ false ∷ false ∷ false ∷ false ∷ nat_le 4 seen.counts.conditions ∷ false ∷ []
 breaches_by known seen says name = false ∷ false ∷ false ∷ false ∷ false ∷ false ∷ false ∷ false ∷ false ∷ false ∷ false ∷ []
 
 abbrev is_among : List (List ℕ) → List ℕ → Bool

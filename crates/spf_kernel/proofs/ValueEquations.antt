@@ -9,11 +9,11 @@ use Rattle.spf_kernel.specs.declared.tree.Prod.{Prod}
 use Rattle.spf_kernel.specs.declared.tree.Factor.{Factor}
 use Rattle.spf_kernel.specs.declared.tree.Factor.TheVariants as factor
 use Rattle.spf_kernel.specs.Names.{Names}
-use Rattle.spf_kernel.specs.Resolved.{product, value_of, more_factors, more_prods, factor_of, prod_of}
+use Rattle.spf_kernel.specs.Resolved.{product, value_of, more_factors, more_prods, factor_of}
 
 module _ (texts : List (List ℕ)) (names : Names) (scope : Scope) where
   abbrev pub summand_of : RawSummand → Prod
-  summand_of summand = prod_of texts names scope summand.minus summand.prod
+  summand_of summand = product summand.minus (map (factor_of texts names scope) summand.facts)
 
   factors_are : {n : _} (row : Row_of-RawFactor n) → more_factors texts names scope row ≡ map (factor_of texts names scope) (items-the_row-RawFactor n row)
   factors_are end_of-RawFactor = refl
@@ -21,16 +21,14 @@ module _ (texts : List (List ℕ)) (names : Names) (scope : Scope) where
 
   prods_are : {n : _} (row : Row_of-RawSummand n) → more_prods texts names scope row ≡ map summand_of (items-the_row-RawSummand n row)
   prods_are end_of-RawSummand = refl
-  prods_are (more_of-RawSummand minus first shape facts others) =
+  prods_are (more_of-RawSummand minus shape facts others) =
       let shown = factors_are facts ∙ ap (map (factor_of texts names scope)) (sym (items_shown-the_row-RawFactor-1 shape facts)) in
-      λ i. product minus (factor_of texts names scope first ∷ shown i) ∷ prods_are others i
+      λ i. product minus (shown i) ∷ prods_are others i
 
-  pub value_is : (value : RawValue) → value_of texts names scope value ≡ roll-Value (record { prods = prod_of texts names scope (out-RawValue value).minus (out-RawValue value).first ∷ map summand_of (out-RawValue value).others })
+  pub value_is : (value : RawValue) → value_of texts names scope value ≡ roll-Value (record { prods = map summand_of (out-RawValue value).summands })
   unfolding out-RawValue denote.Hole.Carrier.out
-  value_is (RawValue' minus first shape facts shape_of_others others) =
-      let shown = factors_are facts ∙ ap (map (factor_of texts names scope)) (sym (items_shown-the_row-RawFactor-1 shape facts)) in
-      let more = prods_are others ∙ ap (map summand_of) (sym (items_shown-the_row-RawSummand-2 shape_of_others others)) in
-      λ i. roll-Value (record { prods = product minus (factor_of texts names scope first ∷ shown i) ∷ more i })
+  value_is (RawValue' shape summands) =
+      ap (λ (prods : List Prod). roll-Value (record { prods = prods })) (prods_are summands ∙ ap (map summand_of) (sym (items_shown-the_row-RawSummand-2 shape summands)))
 
   -- a value in parentheses
   pub paren_is : (inside : RawValue) → factor_of texts names scope (Paren inside) ≡ factor.Paren (value_of texts names scope inside)

@@ -1,39 +1,42 @@
 -- The printed words of a part of a tree, as tokens of the printed text: they spell the part again, and its notes tell the same.
-use Rattle.std.proofs.Common.{◌≡◌, ℕ, ◌≤◌, ◌+◌, ◌^◌, List, [], ◌∷◌, Some, get_or}
-use Rattle.std.specs.Prelude.{⊤, option_map}
-use Rattle.std.specs.List.{AllByRecursion}
+use Rattle.std.proofs.Common.{◌≡◌, ℕ, Bool, ◌≤◌, ◌^◌, List, [], Some, get_or, refl, sym, ◌∙◌}
+use Rattle.std.specs.Prelude.{option_map}
+use Rattle.spf_lex.specs.Derivation.{Derivation}
 use Rattle.spf_lex.specs.Grammar.{Grammar}
-use Rattle.spf_lex.specs.Derivation.{Derivation, Spells}
-use Rattle.spf_lex.specs.Tokens.{IsTokenText}
+use Rattle.spf_lex.specs.BundleWords.{bundle_words, same_kind}
+use Rattle.spf_lex.specs.Language.{Lexed, lexed}
+use Rattle.spf_lex.specs.Production.{Production}
+use Rattle.spf_lex.specs.declared.cursor.Token.{Token}
+use Rattle.spf_lex.specs.declared.kind.Kind.{Kind}
+use Rattle.spf_lex.specs.declared.kind.Kind.TheVariants as kind
+use Rattle.spf_lex.proofs.FixedWords.{IsFixed}
 use Rattle.spf_lex.proofs.Leaves.{Leaves}
-use Rattle.spf_kernel.specs.declared.kind.Kind.{Kind}
-use Rattle.spf_kernel.specs.declared.kind.Kind.TheVariants as kind
-use Rattle.spf_kernel.specs.declared.token.Token.{Token}
+use Rattle.spf_lex.proofs.PrintedWords.{IsText, Holds, in_words}
 use Rattle.spf_kernel.specs.declared.note.Note.{Note}
 use Rattle.spf_kernel.specs.declared.note.Scope.{Scope}
 use Rattle.spf_kernel.specs.declared.tree_names.TreeNames.{TreeNames}
-use Rattle.spf_kernel.specs.IsKernel.{kind_of}
-use Rattle.spf_kernel.specs.Names.{Names}
+use Rattle.spf_kernel.specs.Names.{Names, names_of}
 use Rattle.spf_kernel.specs.Resolved.{variable_of}
 use Rattle.spf_kernel.specs.Rules.{text_of}
-use Rattle.spf_kernel.specs.Token.{token_of, numbered}
 use Rattle.spf_kernel.specs.TreeNames.{name_at}
-use Rattle.spf_kernel.proofs.Told.{Alike}
+use Rattle.spf_kernel.proofs.Told.{AreKept, Alike}
 
--- these words stand among the texts, from number `at` on
-abbrev pub Holds : List (List ℕ) → ℕ → List (List ℕ) → Type 0
-Holds texts at [] = ⊤
-Holds texts at (word ∷ words) = (get_or texts at [] ≡ word) × Holds texts (at + 1) words
+-- a token with this number and text
+abbrev pub token_of : ℕ → List ℕ → Token
+token_of at text = (lexed bundle_words at text).token
 
--- a token with this text is a name
-pub record IsNameText (text : List ℕ) : Type 0 where
-  pub token : IsTokenText text
-  pub named : kind_of (token_of 0 text) ≡ kind.Name
+-- a word that is a token of this kind
+abbrev pub IsFixedWord : Kind → List ℕ → Type 0
+IsFixedWord = IsFixed bundle_words
+
+-- words that are a text of the grammar
+abbrev pub AreText : Grammar Kind → List (List ℕ) → ℕ → Type 0
+AreText = IsText bundle_words
 
 -- a token of a text, where the grammar wants one of this kind: a name has the text of a name, and the value isn't too large
-pub record IsLeaf (texts : List (List ℕ)) (wanted : Kind) (token : Token) : Type 0 where
-  pub name : wanted ≡ kind.Name → IsNameText (text_of texts token)
-  pub value : token.value ≤ 2 ^ 63
+pub record IsLeaf (texts : List (List ℕ)) (wanted : Kind) (leaf : Lexed Kind) : Type 0 where
+  pub name : wanted ≡ kind.Name → IsFixedWord kind.Name (text_of texts leaf.token)
+  pub value : leaf.token.value ≤ 2 ^ 63
 
 -- the names by which numbers are printed
 abbrev pub shown : Names → TreeNames
@@ -46,22 +49,95 @@ pub record IsScoped (texts written : List (List ℕ)) (vars : List (List ℕ)) (
   pub outer : option_map (text_of written) again.outer ≡ option_map (text_of texts) scope.outer
   pub inner : option_map (text_of written) again.inner ≡ option_map (text_of texts) scope.inner
 
--- the words, as tokens from number `at` on, are a text of the grammar, and each is a token's text
-pub record IsText (g : Grammar Kind) (words : List (List ℕ)) (at : ℕ) : Type 0 where
-  pub derivation : Derivation Token g
-  pub spells : Spells kind_of g (numbered at words) derivation
-  pub legible : AllByRecursion IsTokenText words
+-- a text, its printed words, and all notes of the text
+pub record Source : Type 0 where
+  pub texts : List (List ℕ)
+  pub written : List (List ℕ)
+  pub notes : List Note
 
--- they are a text that means the part again and whose notes tell what its notes told
-pub record IsWritten (texts written : List (List ℕ)) {R A : Type 0} (g : Grammar Kind) (raw_of : Derivation Token g → R) (meaning : R → A) (notes : R → List Note)
-    (part : A) (words : List (List ℕ)) (others : List Note) (at : ℕ) : Type 0 where
-  pub text : IsText g words at
-  pub means : meaning (raw_of text.derivation) ≡ part
-  pub alike : Alike texts written others (notes (raw_of text.derivation))
+-- with the variables that are in scope
+pub record Context : Type 0 where
+  pub texts : List (List ℕ)
+  pub written : List (List ℕ)
+  pub notes : List Note
+  pub vars : List (List ℕ)
+  pub scope : Scope
+  pub again : Scope
+  pub scoped : IsScoped texts written vars scope again
 
--- each text of the grammar whose notes are all such is written again, where the words that it is printed as stand
-abbrev pub AreWritten : (texts written : List (List ℕ)) {R A : Type 0} (Such : Note → Type 0) (g : Grammar Kind) (raw_of : Derivation Token g → R) (meaning again : R → A) (notes notes_again : R → List Note)
-    (words : A → List (List ℕ)) → Type 0
-AreWritten texts written Such g raw_of meaning again notes notes_again words =
-    (d : Derivation Token g) → Leaves (IsLeaf texts) g d → AllByRecursion Such (notes (raw_of d)) → (at : ℕ) → Holds written at (words (meaning (raw_of d)))
-    → IsWritten texts written g raw_of again notes_again (meaning (raw_of d)) (words (meaning (raw_of d))) (notes (raw_of d)) at
+abbrev pub source : Context → Source
+source c = record { texts = c.texts; written = c.written; notes = c.notes }
+
+abbrev pub names_in : Context → Names
+names_in c = names_of c.texts c.notes
+
+abbrev pub shown_in : Context → TreeNames
+shown_in c = shown (names_in c)
+
+-- what a raw tree of a text means and tells, and what one of the written words does
+pub record Meaning (R A : Type 0) : Type 0 where
+  pub means : R → A
+  pub means_again : R → A
+  pub notes : R → List Note
+  pub notes_again : R → List Note
+  pub words : A → List (List ℕ)
+
+-- of what is resolved with variables in scope, and of what is not
+abbrev pub in_scope : {R A : Type 0} (c : Context) → (List (List ℕ) → Names → Scope → R → A) → (Scope → R → List Note) → (TreeNames → List (List ℕ) → A → List (List ℕ)) → Meaning R A
+in_scope c of notes words = record {
+  means = of c.texts (names_in c) c.scope;
+  means_again = of c.written (names_in c) c.again;
+  notes = notes c.scope;
+  notes_again = notes c.again;
+  words = words (shown_in c) c.vars;
+}
+
+abbrev pub in_source : {R A : Type 0} (s : Source) → (List (List ℕ) → Names → R → A) → (R → List Note) → (TreeNames → A → List (List ℕ)) → Meaning R A
+in_source s of notes words = record {
+  means = of s.texts (names_of s.texts s.notes);
+  means_again = of s.written (names_of s.texts s.notes);
+  notes = notes;
+  notes_again = notes;
+  words = words (shown (names_of s.texts s.notes));
+}
+
+-- the notes are fit to be written again
+abbrev pub AreFit : Source → List Note → Type 0
+AreFit s notes = AreKept s.texts s.notes notes
+
+module _ (s : Source) {R A : Type 0} where
+  -- the words of what this raw tree means are a text that means it again, and whose notes tell what its notes tell
+  pub record IsWritten (g : Grammar Kind) (make : Derivation (Lexed Kind) g → R) (of : Meaning R A) (raw : R) (at : ℕ) : Type 0 where
+    pub text : AreText g (of.words (of.means raw)) at
+    pub means : of.means_again (make text.derivation) ≡ of.means raw
+    pub alike : Alike s.texts s.written (of.notes raw) (of.notes_again (make text.derivation))
+
+  -- each text of the production whose notes are fit is written again, where the words that it is printed as stand
+  abbrev pub AreWritten : {empty : Bool} → Production same_kind empty R → Meaning R A → Type 0
+  AreWritten p of =
+      (d : Derivation (Lexed Kind) p.shape.grammar) → Leaves (IsLeaf s.texts) p.shape.grammar d → AreFit s (of.notes (p.make d)) → (at : ℕ)
+      → Holds s.written at (of.words (of.means (p.make d))) → IsWritten p.shape.grammar p.make of (p.make d) at
+
+-- words that, put together otherwise, are a text that means it again
+pub written_by : {s : Source} {R A : Type 0} {g : Grammar Kind} {make : Derivation (Lexed Kind) g → R} {of : Meaning R A} {raw : R} {line : List (List ℕ)} {at : ℕ} → of.words (of.means raw) ≡ line
+    → (text : AreText g line at) → of.means_again (make text.derivation) ≡ of.means raw → Alike s.texts s.written (of.notes raw) (of.notes_again (make text.derivation)) → IsWritten s g make of raw at
+written_by same text means alike = record { text = in_words (sym same) text; means = means; alike = alike }
+
+-- ---- names
+
+-- the token made of a word that stands there has that word as its text
+pub text_here : (texts : List (List ℕ)) (at : ℕ) (word : List ℕ) → get_or texts at [] ≡ word → text_of texts (token_of at word) ≡ word
+unfolding lexed
+text_here texts at word there = there
+
+-- the word is a name, and as a token it has the text that this name has in the source
+pub record IsSameName (texts written : List (List ℕ)) (name : Token) (word : List ℕ) (at : ℕ) : Type 0 where
+  pub fixed : IsFixedWord kind.Name word
+  pub same : text_of written (token_of at word) ≡ text_of texts name
+
+pub name_written : (texts written : List (List ℕ)) (name : Lexed Kind) (word : List ℕ) (at : ℕ) → IsLeaf texts kind.Name name → word ≡ text_of texts name.token → get_or written at [] ≡ word
+    → IsSameName texts written name.token word at
+name_written texts written name word at leaf is there = record {
+  fixed = rw is (leaf.name refl);
+  same = text_here written at word there ∙ is;
+}

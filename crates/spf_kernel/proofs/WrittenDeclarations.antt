@@ -1,42 +1,36 @@
 -- Declarations are written again.
-use Rattle.std.proofs.Common.{◌≡◌, ℕ, ◌+◌, List, [], ◌∷◌, ◌++◌, length, map, flat_map, refl, ap, sym, ◌∙◌, subst, inl, inr, append_assoc}
-use Rattle.std.specs.Prelude.{codes}
-use Rattle.spf_lex.specs.Grammar.{One, Then}
-use Rattle.spf_lex.specs.Derivation.{Derivation}
-use Rattle.spf_lex.proofs.Leaves.{Leaves, split_each}
-use Rattle.spf_kernel.specs.declared.kind.Kind.TheVariants as kind
-use Rattle.spf_kernel.specs.declared.token.Token.{Token}
+use Rattle.std.proofs.Common.{◌≡◌, ℕ, false, List, [], ◌∷◌, ◌++◌, map, flat_map, refl, ap, sym, ◌∙◌, subst, codes, append_assoc, append-nil}
+use Rattle.spf_lex.specs.BundleWords.{bundle_words}
+use Rattle.spf_lex.specs.Production.{◌or◌, token}
+use Rattle.spf_lex.specs.declared.cursor.Token.{Token}
+use Rattle.spf_lex.specs.declared.kind.Kind.TheVariants as kind
+use Rattle.spf_lex.proofs.FixedWords.{small_fixed, symbol_fixed}
+use Rattle.spf_term.specs.declared.term.Term.{Term}
 use Rattle.spf_kernel.specs.declared.note.Note.{Note}
 use Rattle.spf_kernel.specs.declared.note.Sort.TheVariants as sort_is
 use Rattle.spf_kernel.specs.declared.note.Spot.TheVariants as spot_is
+use Rattle.spf_kernel.specs.declared.raw.RawIx.{RawIx}
 use Rattle.spf_kernel.specs.declared.raw.RawSized.{RawSized}
+use Rattle.spf_kernel.specs.declared.raw.RawDecl.{RawDecl}
+use Rattle.spf_kernel.specs.declared.raw.RawDecl.TheVariants as raw_decl
+use Rattle.spf_kernel.specs.declared.tree.DataDecl.{DataDecl}
+use Rattle.spf_kernel.specs.declared.tree.Decl.{Decl}
 use Rattle.spf_kernel.specs.declared.tree.Decl.TheVariants as decl_is
-use Rattle.spf_kernel.specs.declared.tree_names.TreeNames.{TreeNames}
-use Rattle.spf_kernel.specs.KernelGrammar.{ix, sized, params, index, values, decl}
 use Rattle.spf_kernel.specs.Names.{Names, names_of}
-use Rattle.spf_kernel.specs.Notes.{head_notes, param_note, cells_notes, decl_notes}
-use Rattle.spf_kernel.specs.Printed.{term_words, trend_words, array_words, sized_words, decl_words}
-use Rattle.spf_kernel.specs.RawTree.{ix_in, sized_in, trend_in, decl_in}
+use Rattle.spf_kernel.specs.Notes.{param_note, head_notes, cells_notes, decl_notes}
+use Rattle.spf_kernel.specs.Printed.{term_words, trend_words, sized_words, array_words, decl_words}
+use Rattle.spf_kernel.specs.Productions as syntax
 use Rattle.spf_kernel.specs.Resolved.{head_of, data_decl_of, decl_of}
 use Rattle.spf_kernel.specs.Rules.{text_of}
-use Rattle.spf_kernel.specs.Scopes.{nothing}
-use Rattle.spf_kernel.specs.Token.{token_of}
-use Rattle.spf_kernel.proofs.Alike.{alike_none, alike_append, alike_declared}
-use Rattle.spf_kernel.proofs.FixedWords.{in_word, range_word, comma_word, semicolon_word, param_word, index_word, data_word}
-use Rattle.spf_kernel.proofs.SpelledParts.{word_alone, behind_word, behind_part, on_left, on_right, in_brackets}
-use Rattle.spf_kernel.proofs.Spelling.{holds_both}
-use Rattle.spf_kernel.proofs.Told.{Alike, IsKept, AreKept}
-use Rattle.spf_kernel.proofs.Written.{IsText, IsLeaf, Holds, shown, AreWritten}
-use Rattle.spf_kernel.proofs.WrittenLists.{many_led_written}
-use Rattle.spf_kernel.proofs.WrittenParts.{stands_inside, written_by, name_written}
-use Rattle.spf_kernel.proofs.WrittenScopes.{nothing_scoped}
+use Rattle.spf_kernel.proofs.Alike.{alike_declared}
+use Rattle.spf_kernel.proofs.Written.{in_source, IsFixedWord, Source, shown, Meaning, AreFit, AreWritten}
+use Rattle.spf_kernel.proofs.WrittenLoops.{outside}
+use Rattle.spf_kernel.proofs.WrittenParts.{Written, either_written, ◌&◌, led_by, ended_by, parted_by, a_sign, a_name, made_of}
 use Rattle.spf_kernel.proofs.WrittenSigns.{trend_written}
-use Rattle.spf_kernel.proofs.WrittenTerms.{ix_written}
+use Rattle.spf_kernel.proofs.WrittenStatements.{semicolon, in_word, range_word, an_ix, a_size}
 
--- ---- the words, put together as the grammar puts them
-
-list_line : (word : List ℕ) (first others : List (List ℕ)) → word ∷ (first ++ others) ++ codes ";" ∷ [] ≡ word ∷ (first ++ (others ++ codes ";" ∷ []))
-list_line word first others = ap (λ (words : List (List ℕ)). word ∷ words) (append_assoc first others (codes ";" ∷ []))
+comma : IsFixedWord kind.Comma (codes ",")
+comma = symbol_fixed bundle_words kind.Comma (codes ",") refl refl
 
 index_line : (array low high trend : List (List ℕ))
     → codes "index" ∷ array ++ codes "in" ∷ low ++ codes ".." ∷ high ++ trend ++ codes ";" ∷ []
@@ -47,134 +41,111 @@ index_line array low high trend =
     ∙ append_assoc (array ++ codes "in" ∷ low) (codes ".." ∷ high) (trend ++ codes ";" ∷ [])
     ∙ append_assoc array (codes "in" ∷ low) (codes ".." ∷ (high ++ (trend ++ codes ";" ∷ []))))
 
-module _ (texts written : List (List ℕ)) (notes : List Note) where
-  abbrev names : Names
-  names = names_of texts notes
+three_notes : (size low high : List Note) → size ++ low ++ high ≡ size ++ (low ++ (high ++ []))
+three_notes size low high = append_assoc size low high ∙ ap (λ (notes : List Note). size ++ (low ++ notes)) (sym (append-nil high))
 
-  abbrev printed : TreeNames
-  printed = shown names
+one_note_each : (names : List Token) → map param_note names ≡ flat_map (λ (name : Token). param_note name ∷ []) names
+one_note_each [] = refl
+one_note_each (name ∷ names) = ap (λ (notes : List Note). param_note name ∷ notes) (one_note_each names)
+
+module _ (s : Source) where
+  abbrev names : Names
+  names = names_of s.texts s.notes
 
   -- an index expression with no variable in scope
-  pub head_written : (depth : ℕ) → AreWritten texts written (IsKept texts notes) (ix depth) (ix_in depth) (head_of texts names) (head_of written names) head_notes head_notes (term_words printed [])
-  head_written = ix_written texts written notes [] nothing nothing (nothing_scoped texts written) spot_is.Head refl
+  abbrev pub a_head : Written s false RawIx Term
+  a_head = an_ix (outside s) spot_is.Head refl 5
 
   -- ---- names of parameters
 
-  -- a further name of a list
-  abbrev further_name : Derivation Token (Then (One kind.Comma) (One kind.Name)) → Token
-  further_name x = x.1
+  abbrev param_as : Meaning Token (List ℕ)
+  param_as = record { means = text_of s.texts; means_again = text_of s.written; notes = λ name. param_note name ∷ []; notes_again = λ name. param_note name ∷ []; words = λ word. word ∷ [] }
 
-  abbrev param_notes : Token → List Note
-  param_notes name = param_note name ∷ []
+  abbrev named_token : Token → Token
+  named_token name = name
 
-  name_again : AreWritten texts written (IsKept texts notes) (One kind.Name) (λ name. name) (text_of texts) (text_of written) param_notes param_notes (λ name. name ∷ [])
-  unfolding Leaves
-  name_again name leaf kept at holds =
-      let is = name_written texts written name (text_of texts name) at leaf refl holds.0 in
-      written_by refl (word_alone at is.fixed) is.same (alike_declared name (token_of at (text_of texts name)) sort_is.Param is.same alike_none)
-
-  one_note_each : (names : List Token) → flat_map param_notes names ≡ map param_note names
-  one_note_each [] = refl
-  one_note_each (name ∷ names) = ap (λ (notes : List Note). param_note name ∷ notes) (one_note_each names)
+  param_written : AreWritten s (token kind.Name) param_as
+  param_written = made_of a_name param_as named_token
+      (record { fit = λ r fit. tt; words = λ r fit. refl; means = λ r again same. same; alike = λ r again same alike. alike_declared r again sort_is.Param same alike })
 
   -- ---- arrays and their sizes
 
-  -- an array and its size, of whichever sort, without the note of its name
-  pub record IsSizedAgain (raw : RawSized) (at : ℕ) : Type 0 where
-    pub text : IsText sized (sized_words printed (text_of texts raw.name) (head_of texts names raw.size)) at
-    pub name : text_of written (sized_in text.derivation).name ≡ text_of texts raw.name
-    pub size : head_of written names (sized_in text.derivation).size ≡ head_of texts names raw.size
-    pub alike : Alike texts written (head_notes raw.size) (head_notes (sized_in text.derivation).size)
+  abbrev Sized : Type 0
+  Sized = List ℕ × Term
 
-  sized_written : (d : Derivation Token sized) → Leaves (IsLeaf texts) sized d → AreKept texts notes (head_notes (sized_in d).size) → (at : ℕ)
-      → Holds written at (sized_words printed (text_of texts (sized_in d).name) (head_of texts names (sized_in d).size)) → IsSizedAgain (sized_in d) at
-  unfolding Leaves sized sized_in
-  sized_written (name, (opened, (size, closed))) leaves kept at holds =
-      let size_words = term_words printed [] (head_of texts names (ix_in 4 size)) in
-      let is = name_written texts written name (text_of texts name) at leaves.0 refl holds.0 in
-      let size_again = head_written 4 size leaves.1.1.0 kept (at + 1 + 1) (stands_inside written (at + 1) (codes "[") size_words (codes "]") holds.1) in
-      record {
-        text = behind_word at is.fixed (in_brackets (at + 1) size_again.text);
-        name = is.same;
-        size = size_again.means;
-        alike = size_again.alike;
-      }
+  -- without the note of the name
+  abbrev sized_as : Meaning RawSized Sized
+  sized_as = record {
+    means = λ array. (text_of s.texts array.name, head_of s.texts names array.size);
+    means_again = λ array. (text_of s.written array.name, head_of s.written names array.size);
+    notes = λ array. head_notes array.size;
+    notes_again = λ array. head_notes array.size;
+    words = λ array. sized_words (shown names) array.0 array.1;
+  }
 
-  cells_written : AreWritten texts written (IsKept texts notes) sized sized_in (data_decl_of texts names) (data_decl_of written names) cells_notes cells_notes (array_words printed)
-  cells_written d leaves kept at holds =
-      let is = sized_written d leaves kept.1 at holds in
-      written_by refl is.text (λ i. record { name = is.name i; size = is.size i })
-      (alike_declared (sized_in d).name (sized_in is.text.derivation).name sort_is.Data is.name is.alike)
+  sized_written : AreWritten s syntax.sized sized_as
+  unfolding syntax.sized
+  sized_written = made_of (a_name & a_size (outside s) spot_is.Head refl) sized_as (λ x. record { name = x.0; size = x.1 })
+      (record { fit = λ r fit. fit; words = λ r fit. refl; means = λ r again same. same; alike = λ r again same alike. alike })
 
-  -- a further array of a list
-  abbrev further_array : Derivation Token (Then (One kind.Comma) sized) → RawSized
-  further_array x = sized_in x.1
+  abbrev a_sized : Written s false RawSized Sized
+  a_sized = record { form = syntax.sized; of = sized_as; again = sized_written }
+
+  abbrev cells_as : Meaning RawSized DataDecl
+  cells_as = in_source s data_decl_of cells_notes array_words
+
+  abbrev sized_array : RawSized → RawSized
+  sized_array array = array
+
+  cells_written : AreWritten s syntax.sized cells_as
+  cells_written = made_of a_sized cells_as sized_array (record {
+    fit = λ r fit. fit.1;
+    words = λ r fit. refl;
+    means = λ r again same i. record { name = (same i).0; size = (same i).1 };
+    alike = λ r again same alike. alike_declared r.name again.name sort_is.Data (λ i. (same i).0) alike;
+  })
 
   -- ---- declarations
 
-  pub decl_written : AreWritten texts written (IsKept texts notes) decl decl_in (decl_of texts names) (decl_of written names) decl_notes decl_notes (decl_words printed)
-  unfolding Leaves decl params index values decl_in
-  decl_written (inl (word, (first, (others, end)))) leaves kept at holds =
-      let others_words = flat_map (λ name. codes "," ∷ name ∷ []) (map (text_of texts) (map further_name others)) in
-      let others_at = at + 1 + 1 in
-      let line = list_line (codes "param") (text_of texts first ∷ []) others_words in
-      let stands = subst (Holds written at) line holds in
-      let behind = holds_both written others_at others_words (codes ";" ∷ []) stands.1.1 in
-      let first_again = name_written texts written first (text_of texts first) (at + 1) leaves.1.0 refl stands.1.0 in
-      let others_again =
-      many_led_written texts written (IsKept texts notes) (One kind.Name) (λ name. name) (text_of texts) (text_of written) param_notes param_notes (λ name. name ∷ [])
-      comma_word name_again others leaves.1.1.0 (subst (AreKept texts notes) (sym (one_note_each (map further_name others))) kept.1) others_at behind.0
-      in
-      written_by line
-      (on_left (behind_word at param_word (behind_word (at + 1) first_again.fixed (behind_part others_again.text (word_alone (others_at + length others_words) semicolon_word)))))
-      (λ i. decl_is.Params (first_again.same i ∷ others_again.means i))
-      (alike_declared first (token_of (at + 1) (text_of texts first)) sort_is.Param first_again.same
-      (subst (λ (new : List Note). Alike texts written (map param_note (map further_name others)) new) (one_note_each (map further_name others_again.text.derivation))
-      (subst (λ (old : List Note). Alike texts written old (flat_map param_notes (map further_name others_again.text.derivation))) (one_note_each (map further_name others)) others_again.alike)))
-  decl_written (inr (inl (word, (array, (in_token, (low, (dots, (high, (trend, end))))))))) leaves kept at holds =
-      let raw = sized_in array in
-      let array_part = sized_words printed (text_of texts raw.name) (head_of texts names raw.size) in
-      let low_words = term_words printed [] (head_of texts names (ix_in 5 low)) in
-      let high_words = term_words printed [] (head_of texts names (ix_in 5 high)) in
-      let trend_part = trend_words (trend_in trend) in
-      let low_at = at + 1 + length array_part + 1 in
-      let high_at = low_at + length low_words + 1 in
-      let trend_at = high_at + length high_words in
-      let line = index_line array_part low_words high_words trend_part in
-      let stands = subst (Holds written at) line holds in
-      let first = holds_both written (at + 1) array_part (codes "in" ∷ (low_words ++ (codes ".." ∷ (high_words ++ (trend_part ++ codes ";" ∷ []))))) stands.1 in
-      let second = holds_both written low_at low_words (codes ".." ∷ (high_words ++ (trend_part ++ codes ";" ∷ []))) first.1.1 in
-      let third = holds_both written high_at high_words (trend_part ++ codes ";" ∷ []) second.1.1 in
-      let parts = split_each (IsKept texts notes) (head_notes raw.size ++ head_notes (ix_in 5 low)) (head_notes (ix_in 5 high)) kept.1 in
-      let front = split_each (IsKept texts notes) (head_notes raw.size) (head_notes (ix_in 5 low)) parts.0 in
-      let array_is = sized_written array leaves.1.0 front.0 (at + 1) first.0 in
-      let low_again = head_written 5 low leaves.1.1.1.0 front.1 low_at second.0 in
-      let high_again = head_written 5 high leaves.1.1.1.1.1.0 parts.1 high_at third.0 in
-      let trend_again = trend_written (trend_in trend) trend_at in
-      let raw_again = sized_in array_is.text.derivation in
-      written_by line
-      (on_right (on_left (behind_word at index_word (behind_part array_is.text (behind_word (at + 1 + length array_part) in_word (behind_part low_again.text
-      (behind_word (low_at + length low_words) range_word (behind_part high_again.text (behind_part trend_again.text (word_alone (trend_at + length trend_part) semicolon_word)))))))))
-      )
-      (λ i. decl_is.Index (array_is.name i) (array_is.size i) (low_again.means i) (high_again.means i) (trend_again.same i))
-      (alike_declared raw.name raw_again.name sort_is.Index array_is.name
-      (alike_append (alike_append array_is.alike low_again.alike) high_again.alike))
-  decl_written (inr (inr (word, (first, (others, end))))) leaves kept at holds =
-      let first_words = array_words printed (data_decl_of texts names (sized_in first)) in
-      let others_words = flat_map (λ y. codes "," ∷ array_words printed y) (map (data_decl_of texts names) (map further_array others)) in
-      let others_at = at + 1 + length first_words in
-      let line = list_line (codes "data") first_words others_words in
-      let stands = subst (Holds written at) line holds in
-      let behind = holds_both written (at + 1) first_words (others_words ++ codes ";" ∷ []) stands.1 in
-      let last = holds_both written others_at others_words (codes ";" ∷ []) behind.1 in
-      let others_notes = flat_map cells_notes (map further_array others) in
-      let parts = split_each (IsKept texts notes) (cells_notes (sized_in first)) others_notes kept in
-      let first_again = cells_written first leaves.1.0 parts.0 (at + 1) behind.0 in
-      let others_again =
-      many_led_written texts written (IsKept texts notes) sized sized_in (data_decl_of texts names) (data_decl_of written names) cells_notes cells_notes (array_words printed)
-      comma_word cells_written others leaves.1.1.0 parts.1 others_at last.0
-      in
-      written_by line
-      (on_right (on_right (behind_word at data_word (behind_part first_again.text (behind_part others_again.text (word_alone (others_at + length others_words) semicolon_word))))))
-      (λ i. decl_is.Values (first_again.means i ∷ others_again.means i))
-      (alike_append first_again.alike others_again.alike)
+  abbrev pub decl_as : Meaning RawDecl Decl
+  decl_as = in_source s decl_of decl_notes decl_words
+
+  params_written : AreWritten s syntax.params decl_as
+  unfolding syntax.params
+  params_written =
+      made_of (led_by (small_fixed bundle_words kind.Param (codes "param") refl refl) (ended_by semicolon (parted_by comma (record { form = token kind.Name; of = param_as; again = param_written })))) decl_as raw_decl.Params
+      (record {
+        fit = λ r. subst (AreFit s) (one_note_each r);
+        words = λ r fit. refl;
+        means = λ r again same i. decl_is.Params (same i);
+        alike = λ r again same alike. rw (one_note_each r, one_note_each again) alike;
+      })
+
+  index_written : AreWritten s syntax.index decl_as
+  unfolding syntax.index
+  index_written =
+      made_of (led_by (small_fixed bundle_words kind.Index (codes "index") refl refl) (a_sized & led_by in_word (a_head & led_by range_word (a_head & ended_by semicolon (a_sign syntax.trend (λ trend. trend) trend_words trend_written))))) decl_as
+      (λ x. raw_decl.Index x.0 x.1.0 x.1.1.0 x.1.1.1)
+      (record {
+        fit = λ r fit. subst (AreFit s) (three_notes (head_notes r.0.size) (head_notes r.1.0) (head_notes r.1.1.0)) fit.1;
+        words = λ r fit.
+            index_line (sized_words (shown names) (text_of s.texts r.0.name) (head_of s.texts names r.0.size)) (term_words (shown names) [] (head_of s.texts names r.1.0))
+            (term_words (shown names) [] (head_of s.texts names r.1.1.0)) (trend_words r.1.1.1);
+        means = λ r again same i. decl_is.Index (same i).0.0 (same i).0.1 (same i).1.0 (same i).1.1.0 (same i).1.1.1;
+        alike = λ r again same alike.
+            alike_declared r.0.name again.0.name sort_is.Index (λ i. (same i).0.0)
+            (rw (three_notes (head_notes r.0.size) (head_notes r.1.0) (head_notes r.1.1.0), three_notes (head_notes again.0.size) (head_notes again.1.0) (head_notes again.1.1.0)) alike);
+      })
+
+  values_written : AreWritten s syntax.values decl_as
+  unfolding syntax.values
+  values_written =
+      made_of (led_by (small_fixed bundle_words kind.Data (codes "data") refl refl) (ended_by semicolon (parted_by comma (record { form = syntax.sized; of = cells_as; again = cells_written })))) decl_as raw_decl.Values
+      (record { fit = λ r fit. fit; words = λ r fit. refl; means = λ r again same i. decl_is.Values (same i); alike = λ r again same alike. alike })
+
+  pub decl_written : AreWritten s syntax.decl decl_as
+  unfolding syntax.decl
+  decl_written = either_written syntax.params (syntax.index or syntax.values) decl_as params_written (either_written syntax.index syntax.values decl_as index_written values_written)
+
+  abbrev pub a_decl : Written s false RawDecl Decl
+  a_decl = record { form = syntax.decl; of = decl_as; again = decl_written }

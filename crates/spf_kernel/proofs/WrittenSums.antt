@@ -1,218 +1,234 @@
 -- The printed words of a sum whose monomials are written again mean the sum again.
-use Rattle.std.proofs.Common.{◌≡◌, ◌⊎◌, ℕ, ℤ, pos, ◌+ℤ◌, ◌+◌, ◌*◌, ◌≤◌, Bool, List, [], ◌∷◌, ◌++◌, length, flat_map, Option, is_some, refl, ap, sym, ◌∙◌, subst, arith, append_assoc, append-nil, length-append, inl, inr, unsigned_abs}
+use Rattle.std.proofs.Common.{◌≡◌, ◌⊎◌, ℕ, ℤ, pos, ◌+ℤ◌, ◌+◌, ◌-◌, ◌*◌, ◌≤◌, Bool, true, false, List, [], ◌∷◌, ◌++◌, length, map, flat_map, is_some, refl, ap, sym, ◌∙◌, subst, arith, append_assoc, append-nil, inl, inr, decimal, min, unsigned_abs}
 use Rattle.std.specs.Int.{is_negative}
-use Rattle.std.specs.List.{AllByRecursion}
+use Rattle.std.specs.List.{AllByRecursion, sum}
 use Rattle.std.proofs.lemmas.Int.{ints}
 use Rattle.spf_base.specs.Wrap.{wrap}
-use Rattle.spf_lex.specs.Grammar.{Grammar}
-use Rattle.spf_lex.specs.Derivation.{Derivation}
+use Rattle.spf_lex.proofs.Leaves.{join_each}
+use Rattle.spf_lex.proofs.PrintedWords.{Holds, behind_part, on_left, absent}
 use Rattle.spf_term.specs.declared.term.Term.{Term, roll-Term, out-roll-Term}
 use Rattle.spf_term.specs.declared.term.Mono.{Mono}
-use Rattle.spf_kernel.specs.declared.kind.Kind.{Kind}
-use Rattle.spf_kernel.specs.declared.token.Token.{Token}
 use Rattle.spf_kernel.specs.declared.note.Note.{Note}
 use Rattle.spf_kernel.specs.declared.note.Spot.{Spot}
-use Rattle.spf_kernel.specs.declared.note.Scope.{Scope}
-use Rattle.spf_kernel.specs.declared.raw.RawStep.{RawStep, roll-RawStep}
+use Rattle.spf_kernel.specs.declared.raw.RawStep.{RawStep}
 use Rattle.spf_kernel.specs.declared.raw.RawMono.{RawMono}
 use Rattle.spf_kernel.specs.declared.raw.RawAtom.{RawAtom}
-use Rattle.spf_kernel.specs.KernelGrammar.{sum_of, mono_of}
-use Rattle.spf_kernel.specs.Names.{Names}
-use Rattle.spf_kernel.specs.Notes.{ix_notes, mono_notes}
-use Rattle.spf_kernel.specs.Printed.{lead_words, limit, further_number, term_words, mono_words, further_mono}
-use Rattle.spf_kernel.specs.RawTree.{sum_in}
+use Rattle.spf_kernel.specs.Notes.{mono_notes}
+use Rattle.spf_kernel.specs.Printed.{sign_word, lead_words, limit, pieces, only_number, further_number, term_words, mono_words, further_mono}
+use Rattle.spf_kernel.specs.Productions.{Syntax}
+use Rattle.spf_kernel.specs.Productions as syntax
 use Rattle.spf_kernel.specs.Resolved.{alone_of, monos_of, term_of, signed}
 use Rattle.spf_kernel.specs.Rules.{is_monomial, count_that}
 use Rattle.spf_kernel.proofs.Alike.{told_append}
 use Rattle.spf_kernel.proofs.NoteEquations.{step_notes}
-use Rattle.spf_kernel.proofs.PrintedConstants.{wrap_no_larger, wrap_twice, signed_back}
+use Rattle.spf_kernel.proofs.PrintedConstants.{wrap_no_larger, wrap_twice, signed_back, signed_sum, IsPiece, first_sum, pieces_sum, pieces_small, pieces_few}
 use Rattle.spf_kernel.proofs.PrintEquations.{sum_printed, term_words_are}
-use Rattle.spf_kernel.proofs.Spelling.{holds_both}
 use Rattle.spf_kernel.proofs.TermEquations.{step_monos}
 use Rattle.spf_kernel.proofs.Told.{Told, told}
-use Rattle.spf_kernel.proofs.Written.{Holds, shown}
-use Rattle.spf_kernel.proofs.WrittenInside.{IsWrittenInside, told_as, IsMono, AreSteps, total_of, monomials_both, one_more_step, more_counted, sum_written, made_of, made_notes, made_term}
-use Rattle.spf_kernel.proofs.WrittenNumbers.{further_written, only_written}
+use Rattle.spf_kernel.proofs.Written.{Context, names_in, shown_in}
+use Rattle.spf_kernel.proofs.WrittenInside.{IsWrittenInside, IsAgainInside, sum_as, told_as, total_of, monomials_both, made_of, made_notes, made_term, Item, Total, first_added, total, count_of, both_totals, total_append, count_append, IsReadable, row_read}
+use Rattle.spf_kernel.proofs.WrittenSigns.{number_written}
 
-module _ (texts written : List (List ℕ)) (names : Names) (vars : List (List ℕ)) (scope again : Scope) (spot : Spot) (a : Grammar Kind) (atom_in : Derivation Token a → RawAtom) where
+-- ---- numbers
+
+abbrev pub number_item : Bool → ℕ → Item
+number_item minus n = record { minus = minus; words = decimal n ∷ []; given = []; number = signed minus n; tellings = []; count = 1 }
+
+abbrev number_items : Bool → List ℕ → List Item
+number_items minus ns = map (number_item minus) ns
+
+-- a number alone, whose words are these
+abbrev number_total : List (List ℕ) → ℤ → Total
+number_total words number = record { words = words; given = []; number = number; tellings = [] }
+
+numbers_total : (minus : Bool) (ns : List ℕ) → total (number_items minus ns) ≡ number_total (flat_map (λ piece. sign_word minus ∷ decimal piece ∷ []) ns) (signed minus (sum ns))
+numbers_total true [] = refl
+numbers_total false [] = refl
+numbers_total minus (n ∷ ns) =
+    let words = flat_map (λ piece. sign_word minus ∷ decimal piece ∷ []) (n ∷ ns) in
+    ap (first_added (number_item minus n)) (numbers_total minus ns) ∙ ap (number_total words) (sym (ap (signed minus) (first_sum n ns) ∙ signed_sum minus n (sum ns)))
+
+numbers_count : (minus : Bool) (ns : List ℕ) → count_of (number_items minus ns) ≡ length ns
+numbers_count minus [] = refl
+numbers_count minus (n ∷ ns) = omega (arith, numbers_count minus ns)
+
+-- the pieces of a further number
+abbrev further_items : Bool → ℕ → List Item
+further_items minus n = number_items minus (pieces n)
+
+further_total : (minus : Bool) (n : ℕ) → total (further_items minus n) ≡ number_total (further_number minus n) (signed minus n)
+further_total minus n = numbers_total minus (pieces n) ∙ ap (λ (m : ℕ). number_total (further_number minus n) (signed minus m)) (pieces_sum n)
+
+further_count : (minus : Bool) (n k : ℕ) → n ≤ k * limit → count_of (further_items minus n) ≤ k
+further_count minus n k fits = omega (arith, numbers_count minus (pieces n), pieces_few n k fits)
+
+module _ (c : Context) (spot : Spot) (a : Syntax RawAtom) where
+  number_read : (minus : Bool) (n : ℕ) → n ≤ limit → IsReadable c spot a (number_item minus n)
+  unfolding syntax.mono syntax.numbered
+  number_read minus n small at holds =
+      let number = number_written n at (omega arith) in
+      record {
+        text = on_left (behind_part number.text (absent (at + 1)));
+        gives = refl;
+        total = ap (signed minus) number.same;
+        inside = record { same = refl; small = (tt, (omega (arith, number.same), tt)); few = omega arith };
+      }
+
+  numbers_read : (minus : Bool) (ns : List ℕ) → AllByRecursion IsPiece ns → AllByRecursion (IsReadable c spot a) (number_items minus ns)
+  numbers_read minus [] small = tt
+  numbers_read minus (n ∷ ns) small = (number_read minus n small.0, numbers_read minus ns small.1)
+
+  further_read : (minus : Bool) (n : ℕ) → AllByRecursion (IsReadable c spot a) (further_items minus n)
+  further_read minus n = numbers_read minus (pieces n) (pieces_small n)
+
+  -- ---- the monomials of the source
+
   abbrev monomials : RawMono → ℕ
-  monomials mono = count_that is_monomial (mono_notes spot scope mono)
+  monomials mono = count_that is_monomial (mono_notes spot c.scope mono)
 
-  abbrev words_of_mono : Mono → List (List ℕ)
-  words_of_mono mono = mono_words (shown names) vars mono
+  abbrev item_of : RawMono → Mono → Item
+  item_of mono given = record {
+    minus = is_negative given.coef;
+    words = mono_words (shown_in c) c.vars given;
+    given = given ∷ [];
+    number = pos 0;
+    tellings = told c.texts (mono_notes spot c.scope mono);
+    count = monomials mono;
+  }
 
   -- a monomial of the source is a number
   pub record IsAlone (minus : Bool) (mono : RawMono) : Type 0 where
-    pub none : monos_of texts names scope minus mono ≡ []
+    pub none : monos_of c.texts (names_in c) c.scope minus mono ≡ []
     pub small : unsigned_abs (alone_of minus mono) ≤ limit
-    pub untold : told texts (mono_notes spot scope mono) ≡ []
+    pub untold : told c.texts (mono_notes spot c.scope mono) ≡ []
     pub counts : 1 ≤ monomials mono
 
   -- it has an atom, and its words mean it again
   pub record IsAgain (minus : Bool) (mono : RawMono) : Type 0 where
     pub given : Mono
-    pub gives : monos_of texts names scope minus mono ≡ given ∷ []
+    pub gives : monos_of c.texts (names_in c) c.scope minus mono ≡ given ∷ []
     pub no_number : alone_of minus mono ≡ pos 0
-    pub reads : (at : ℕ) → Holds written at (words_of_mono given)
-        → IsMono written names again spot a atom_in (words_of_mono given) (is_negative given.coef) (given ∷ []) (pos 0) (told texts (mono_notes spot scope mono)) (monomials mono) at
+    pub reads : IsReadable c spot a (item_of mono given)
 
   abbrev pub IsSource : Bool → RawMono → Type 0
   IsSource minus mono = IsAlone minus mono ⊎ IsAgain minus mono
 
   abbrev pub AreSources : List RawStep → Type 0
-  AreSources steps = AllByRecursion (λ (step : RawStep). IsSource step.minus step.mono) steps
-
-  -- how many are numbers
-  abbrev ones : (minus : Bool) (mono : RawMono) → IsSource minus mono → ℕ
-  ones minus mono (inl alone) = 1
-  ones minus mono (inr again) = 0
-
-  abbrev alones : (steps : List RawStep) → AreSources steps → ℕ
-  alones [] each = 0
-  alones (step ∷ steps) each = ones step.minus step.mono each.0 + alones steps each.1
-
-  one_within : (minus : Bool) (mono : RawMono) (source : IsSource minus mono) → unsigned_abs (alone_of minus mono) ≤ ones minus mono source * limit
-  one_within minus mono (inl alone) = omega (arith, alone.small)
-  one_within minus mono (inr again) = omega (arith, ints, again.no_number)
-
-  total_within : (steps : List RawStep) (each : AreSources steps) (start : ℤ) (n : ℕ) → unsigned_abs start ≤ n * limit → unsigned_abs (total_of start steps) ≤ (n + alones steps each) * limit
-  total_within [] each start n within = omega (arith, within)
-  total_within (step ∷ steps) each start n within =
-      let one = one_within step.minus step.mono each.0 in
-      omega (arith, total_within steps each.1 (start +ℤ alone_of step.minus step.mono) (n + ones step.minus step.mono each.0) (omega (arith, ints, one, within)))
+  AreSources steps = AllByRecursion (λ (step : RawStep). IsSource (is_some step.minus) step.mono) steps
 
   abbrev all_monos : List RawStep → List Mono
-  all_monos steps = flat_map (step_monos texts names scope) steps
+  all_monos steps = flat_map (step_monos c.texts (names_in c) c.scope) steps
 
   abbrev all_notes : List RawStep → List Note
-  all_notes steps = flat_map (step_notes spot scope) steps
+  all_notes steps = flat_map (step_notes spot c.scope) steps
+
+  abbrev items_of : List (RawMono × Mono) → List Item
+  items_of found = map (λ x. item_of x.0 x.1) found
+
+  -- these are the monomials with atoms, and so many are numbers
+  record IsFound (steps : List RawStep) : Type 0 where
+    found : List (RawMono × Mono)
+    alones : ℕ
+    readable : AllByRecursion (IsReadable c spot a) (items_of found)
+    monos : map (λ x. x.1) found ≡ all_monos steps
+    tellings : (total (items_of found)).tellings ≡ told c.texts (all_notes steps)
+    counted : count_of (items_of found) + alones ≤ count_that is_monomial (all_notes steps)
+    some : length steps ≤ length found + alones
+    within : (start : ℤ) (n : ℕ) → unsigned_abs start ≤ n * limit → unsigned_abs (total_of start steps) ≤ (n + alones) * limit
+
+  found_in : (steps : List RawStep) → AreSources steps → IsFound steps
+  found_in [] each = record { found = []; alones = 0; readable = tt; monos = refl; tellings = refl; counted = omega arith; some = omega arith; within = λ start n fits. omega (arith, fits) }
+  found_in (step ∷ steps) each = by each.0 (found_in steps each.1) where
+    here : List Note
+    here = step_notes spot c.scope step
+
+    by : IsSource (is_some step.minus) step.mono → IsFound steps → IsFound (step ∷ steps)
+    by (inl alone) rest = record {
+      found = rest.found;
+      alones = rest.alones + 1;
+      readable = rest.readable;
+      monos = rest.monos ∙ (λ i. sym alone.none i ++ all_monos steps);
+      tellings = rest.tellings ∙ sym (told_append c.texts here (all_notes steps) ∙ ap (λ (tellings : List Told). tellings ++ told c.texts (all_notes steps)) alone.untold);
+      counted = omega (arith, rest.counted, monomials_both here (all_notes steps), alone.counts);
+      some = omega (arith, rest.some);
+      within = λ start n fits. omega (arith, rest.within (start +ℤ alone_of (is_some step.minus) step.mono) (n + 1) (omega (arith, ints, fits, alone.small)));
+    }
+    by (inr one) rest = record {
+      found = (step.mono, one.given) ∷ rest.found;
+      alones = rest.alones;
+      readable = (one.reads, rest.readable);
+      monos = λ i. sym one.gives i ++ rest.monos i;
+      tellings = ap (λ (tellings : List Told). told c.texts here ++ tellings) rest.tellings ∙ sym (told_append c.texts here (all_notes steps));
+      counted = omega (arith, rest.counted, monomials_both here (all_notes steps));
+      some = omega (arith, rest.some);
+      within = λ start n fits. rest.within (start +ℤ alone_of (is_some step.minus) step.mono) n (omega (arith, ints, fits, one.no_number));
+    }
+
+  abbrev given_in : List (RawMono × Mono) → List Mono
+  given_in found = map (λ x. x.1) found
 
   abbrev further_words : List Mono → List (List ℕ)
-  further_words monos = flat_map (further_mono (shown names) vars) monos
+  further_words monos = flat_map (further_mono (shown_in c) c.vars) monos
 
-  -- ---- further monomials
-
-  -- if their words stand there, and the words of a number behind them
-  abbrev AreRead : List (List ℕ) → ℤ → List Told → ℕ → ℕ → ℕ → List Mono → Type 0
-  AreRead tail number tellings count all at monos =
-      Holds written at (further_words monos) → AreSteps written names again spot a atom_in tail [] number [] count (at + length (further_words monos))
-      → AreSteps written names again spot a atom_in (further_words monos ++ tail) monos number tellings all at
-
-  -- those that are numbers leave room for as many pieces of the constant, and `extra` is room that was left before
-  behind_written : (tail : List (List ℕ)) (number : ℤ) (count : ℕ) (steps : List RawStep) (each : AreSources steps) (extra : ℕ) → count ≤ alones steps each + extra → (at : ℕ)
-      → AreRead tail number (told texts (all_notes steps)) count (count_that is_monomial (all_notes steps) + extra) at (all_monos steps)
-  behind_written tail number count [] each extra fits at =
-      let here : at + length {A = List ℕ} [] ≡ at = omega arith in
-      λ holds behind.
-      more_counted (omega (arith, fits))
-      (subst (λ n. AreSteps written names again spot a atom_in tail [] number [] count n) here behind)
-  behind_written tail number count (step ∷ steps) each extra fits at = by each.0 fits (λ k within there. behind_written tail number count steps each.1 k within there) where
-    rest : List Mono
-    rest = all_monos steps
-
-    notes : List Note
-    notes = all_notes steps
-
-    by : (source : IsSource step.minus step.mono) → count ≤ (ones step.minus step.mono source + alones steps each.1) + extra
-        → ((k : ℕ) → count ≤ alones steps each.1 + k → (there : ℕ) → AreRead tail number (told texts notes) count (count_that is_monomial notes + k) there rest)
-        → AreRead tail number (told texts (all_notes (step ∷ steps))) count (count_that is_monomial (all_notes (step ∷ steps)) + extra) at (all_monos (step ∷ steps))
-    by (inl alone) fits further =
-        let same_monos : rest ≡ all_monos (step ∷ steps) = sym (ap (λ (monos : List Mono). monos ++ rest) alone.none) in
-        let same_told : told texts notes ≡ told texts (all_notes (step ∷ steps)) =
-        sym (told_append texts (step_notes spot scope step) notes ∙ ap (λ (tellings : List Told). tellings ++ told texts notes) alone.untold) in
-        let all = count_that is_monomial notes + (extra + 1) in
-        let others = further (extra + 1) (omega (arith, fits)) at in
-        let moved : AreRead tail number (told texts (all_notes (step ∷ steps))) count all at (all_monos (step ∷ steps)) =
-        subst (AreRead tail number (told texts (all_notes (step ∷ steps))) count all at) same_monos
-        (subst (λ (tellings : List Told). AreRead tail number tellings count all at rest) same_told others) in
-        λ holds behind. more_counted (omega (arith, monomials_both (step_notes spot scope step) notes, alone.counts)) (moved holds behind)
-    by (inr one) fits further =
-        let given = one.given in
-        let words = words_of_mono given in
-        let here = further_mono (shown names) vars given in
-        let more = further_words rest in
-        let same_monos : given ∷ rest ≡ all_monos (step ∷ steps) = sym (ap (λ (monos : List Mono). monos ++ rest) one.gives) in
-        let all = count_that is_monomial (all_notes (step ∷ steps)) + extra in
-        subst (AreRead tail number (told texts (all_notes (step ∷ steps))) count all at) same_monos (λ holds behind.
-        let parts = holds_both written at here more holds in
-        let there : at + length here ≡ at + 1 + length words = omega arith in
-        let end : at + length (here ++ more) ≡ at + 1 + length words + length more = omega (arith, length-append here more) in
-        let others = further extra (omega (arith, fits)) (at + 1 + length words) (subst (λ n. Holds written n more) there parts.1)
-        (subst (λ n. AreSteps written names again spot a atom_in tail [] number [] count n) end behind) in
-        let whole = one_more_step all at (one.reads (at + 1) parts.0.1) others (omega (arith, ints)) (omega (arith, monomials_both (step_notes spot scope step) notes)) in
-        subst (λ (tellings : List Told). AreSteps written names again spot a atom_in ((here ++ more) ++ tail) (given ∷ rest) number tellings all at) (sym (told_append texts (step_notes spot scope step) notes))
-        (subst (λ (all_words : List (List ℕ)). AreSteps written names again spot a atom_in all_words (given ∷ rest) number (told texts (step_notes spot scope step) ++ told texts notes) all at)
-        (sym (append_assoc here more tail)) whole))
+  found_total : (found : List (RawMono × Mono)) → total (items_of found) ≡ record { words = further_words (given_in found); given = given_in found; number = pos 0; tellings = (total (items_of found)).tellings }
+  found_total [] = refl
+  found_total (x ∷ found) = ap (first_added (item_of x.0 x.1)) (found_total found)
 
   -- ---- the sum
 
-  abbrev IsSum : List Note → ℤ → ℕ → List Mono → Type 0
-  IsSum notes c at monos = Holds written at (sum_printed (shown names) vars monos c)
-      → IsWrittenInside texts written (sum_of (mono_of a)) (sum_in a atom_in) (term_of written names again) (ix_notes spot again) (roll-Term (record { monos = monos; constant = c }))
-      (sum_printed (shown names) vars monos c) notes at
+  -- a row of items whose further ones give this, told by the words that are printed, and by what the sum means
+  printed_row : (x : Item) (xs : List Item) (t : Total) → total xs ≡ t → IsReadable c spot a x → AllByRecursion (IsReadable c spot a) xs → (monos : List Mono) (z : ℤ) (words : List (List ℕ)) (notes : List Note)
+      → (lead_words x.minus ++ x.words) ++ t.words ≡ words → x.given ++ t.given ≡ monos → wrap (x.number +ℤ t.number) ≡ z → x.tellings ++ t.tellings ≡ told c.texts notes
+      → x.count + count_of xs ≤ count_that is_monomial notes → (at : ℕ) → Holds c.written at words
+      → IsWrittenInside c (syntax.sum a) (sum_as c spot) (roll-Term (record { monos = monos; constant = z })) words notes at
+  printed_row x xs t is readable each monos z words notes same_words same_monos same_number same_told few at holds =
+      let line = ap (λ (t : Total). (lead_words x.minus ++ x.words) ++ t.words) is ∙ same_words in
+      let part = ap (λ (t : Total). roll-Term (record { monos = x.given ++ t.given; constant = wrap (x.number +ℤ t.number) })) is ∙ (λ i. roll-Term (record { monos = same_monos i; constant = same_number i })) in
+      told_as refl line refl
+      (row_read c spot a x xs readable each (roll-Term (record { monos = monos; constant = z })) notes (sym part) (ap (λ (t : Total). x.tellings ++ t.tellings) is ∙ same_told) few at (subst (Holds c.written at) (sym line) holds))
 
-  -- the notes `seen` are of numbers in front of the first monomial with an atom: they leave room for as many pieces
-  from_steps : (c : ℤ) → wrap c ≡ c → (steps : List RawStep) (each : AreSources steps) (seen : List Note) → told texts seen ≡ [] → unsigned_abs c ≤ (count_that is_monomial seen + alones steps each) * limit
-      → 1 ≤ count_that is_monomial seen + length steps → (at : ℕ) → IsSum (seen ++ all_notes steps) c at (all_monos steps)
-  from_steps c wrapped [] each seen untold within some at =
-      let few : count_that is_monomial (seen ++ []) ≡ count_that is_monomial seen = ap (count_that is_monomial) (append-nil seen) in
-      λ holds. only_written written names again spot a atom_in texts (seen ++ []) c (count_that is_monomial seen) (roll-Term (record { monos = []; constant = c })) (omega (arith, within)) (omega (arith, some)) (omega (arith, few))
-      (ap (told texts) (append-nil seen) ∙ untold) (λ i. roll-Term (record { monos = []; constant = sym wrapped i })) at
-  from_steps c wrapped (step ∷ steps) each seen untold within some at = by each.0 within (λ before none fits found. from_steps c wrapped steps each.1 before none fits found at) where
-    rest : List Mono
-    rest = all_monos steps
-
-    notes : List Note
-    notes = all_notes steps
-
-    here : List Note
-    here = step_notes spot scope step
-
-    by : (source : IsSource step.minus step.mono) → unsigned_abs c ≤ (count_that is_monomial seen + (ones step.minus step.mono source + alones steps each.1)) * limit
-        → ((before : List Note) → told texts before ≡ [] → unsigned_abs c ≤ (count_that is_monomial before + alones steps each.1) * limit → 1 ≤ count_that is_monomial before + length steps → IsSum (before ++ notes) c at rest)
-        → IsSum (seen ++ all_notes (step ∷ steps)) c at (all_monos (step ∷ steps))
-    by (inl alone) within further =
-        let same_monos : rest ≡ all_monos (step ∷ steps) = sym (ap (λ (monos : List Mono). monos ++ rest) alone.none) in
-        let counted = monomials_both seen here in
-        let others = further (seen ++ here) (told_append texts seen here ∙ (λ i. untold i ++ alone.untold i)) (omega (arith, within, counted, alone.counts)) (omega (arith, counted, alone.counts)) in
-        subst (IsSum (seen ++ all_notes (step ∷ steps)) c at) same_monos (subst (λ (all : List Note). IsSum all c at rest) (append_assoc seen here notes) others)
-    by (inr one) within further =
-        let given = one.given in
-        let words = words_of_mono given in
-        let more = further_words rest in
-        let minus = is_negative given.coef in
-        let lead = lead_words minus in
-        let constant = further_number (is_negative c) (unsigned_abs c) in
-        let all = seen ++ all_notes (step ∷ steps) in
-        let same_monos : given ∷ rest ≡ all_monos (step ∷ steps) = sym (ap (λ (monos : List Mono). monos ++ rest) one.gives) in
-        let few = count_that is_monomial seen in
-        subst (IsSum all c at) same_monos (λ holds.
-        let front = holds_both written at ((lead ++ words) ++ more) constant holds in
-        let middle = holds_both written at (lead ++ words) more front.0 in
-        let first = holds_both written at lead words middle.0 in
-        let tail = further_written written names again spot a atom_in (is_negative c) (unsigned_abs c) (few + alones steps each.1) (omega (arith, within)) (at + length (lead ++ words) + length more) in
-        let behind = behind_written constant (signed (is_negative c) (unsigned_abs c)) (few + alones steps each.1) steps each.1 few (omega arith) (at + length (lead ++ words)) middle.1 tail in
-        let told_all : told texts all ≡ told texts here ++ told texts notes =
-        told_append texts seen (here ++ notes) ∙ (ap (λ (tellings : List Told). tellings ++ told texts (here ++ notes)) untold ∙ told_append texts here notes) in
-        told_as refl (sym (append_assoc (lead ++ words) more constant)) refl
-        (sum_written texts all at (one.reads (at + length lead) first.1) behind (omega (arith, ints, signed_back c))
-        (λ i. roll-Term (record { monos = given ∷ rest; constant = sym wrapped i })) (sym told_all) (omega (arith, monomials_both seen (here ++ notes), monomials_both here notes))))
+  sum_printed_again : (found : List (RawMono × Mono)) → AllByRecursion (IsReadable c spot a) (items_of found) → (alones : ℕ) (z : ℤ) (notes : List Note) → wrap z ≡ z → (total (items_of found)).tellings ≡ told c.texts notes
+      → count_of (items_of found) + alones ≤ count_that is_monomial notes → 1 ≤ length found + alones → unsigned_abs z ≤ alones * limit → (at : ℕ) → Holds c.written at (sum_printed (shown_in c) c.vars (given_in found) z)
+      → IsWrittenInside c (syntax.sum a) (sum_as c spot) (roll-Term (record { monos = given_in found; constant = z })) (sum_printed (shown_in c) c.vars (given_in found) z) notes at
+  sum_printed_again [] each alones z notes wrapped tellings counted some within at =
+      let minus = is_negative z in
+      let first = min (unsigned_abs z) limit in
+      let rest = unsigned_abs z - limit in
+      let both : first + rest ≡ unsigned_abs z = omega arith in
+      let few = further_count minus rest (alones - 1) (omega (arith, within, some)) in
+      printed_row (number_item minus first) (further_items minus rest) (number_total (further_number minus rest) (signed minus rest)) (further_total minus rest)
+      (number_read minus first (omega arith)) (further_read minus rest) [] z (only_number z) notes
+      (append_assoc (lead_words minus) (decimal first ∷ []) (further_number minus rest)) refl
+      (ap wrap (sym (signed_sum minus first rest) ∙ (ap (signed minus) both ∙ signed_back z)) ∙ wrapped) tellings (omega (arith, few, counted, some)) at
+  sum_printed_again (x ∷ found) each alones z notes wrapped tellings counted some within at =
+      let minus = is_negative z in
+      let constant = unsigned_abs z in
+      let item = item_of x.0 x.1 in
+      let more = items_of found in
+      let digits = further_items minus constant in
+      let sum : pos 0 +ℤ (pos 0 +ℤ signed minus constant) ≡ z = omega (arith, ints, signed_back z) in
+      printed_row item (more ++ digits) (both_totals (record { words = further_words (given_in found); given = given_in found; number = pos 0; tellings = (total more).tellings }) (number_total (further_number minus constant) (signed minus constant)))
+      (total_append more digits ∙ (λ i. both_totals (found_total found i) (further_total minus constant i)))
+      each.0 (join_each (IsReadable c spot a) more digits each.1 (further_read minus constant)) (given_in (x ∷ found)) z (sum_printed (shown_in c) c.vars (given_in (x ∷ found)) z) notes
+      (sym (append_assoc (lead_words item.minus ++ item.words) (further_words (given_in found)) (further_number minus constant)))
+      (ap (λ (monos : List Mono). x.1 ∷ monos) (append-nil (given_in found)))
+      (ap wrap sum ∙ wrapped)
+      (ap (λ (tellings : List Told). item.tellings ++ tellings) (append-nil (total more).tellings) ∙ tellings)
+      (omega (arith, counted, count_append more digits, further_count minus constant alones within)) at
 
   -- a sum of such monomials is written again
-  pub sum_again : (lead : Option Token) (first : RawMono) (others : List RawStep) → IsSource (is_some lead) first → AreSources others → (at : ℕ)
-      → Holds written at (term_words (shown names) vars (term_of texts names scope (made_of lead first others)))
-      → IsWrittenInside texts written (sum_of (mono_of a)) (sum_in a atom_in) (term_of written names again) (ix_notes spot again) (term_of texts names scope (made_of lead first others))
-      (term_words (shown names) vars (term_of texts names scope (made_of lead first others))) (ix_notes spot scope (made_of lead first others)) at
-  sum_again lead first others source each at holds =
-      let steps = roll-RawStep (record { minus = is_some lead; mono = first }) ∷ others in
-      let total = total_of (alone_of (is_some lead) first) others in
-      let monos = all_monos steps in
-      let raw = made_of lead first others in
-      let shows = out-roll-Term (record { monos = monos; constant = wrap total }) in
-      let part : Term = roll-Term (record { monos = monos; constant = wrap total }) in
-      let same : part ≡ term_of texts names scope raw = sym (made_term texts names scope lead first others) in
-      let printed : sum_printed (shown names) vars monos (wrap total) ≡ term_words (shown names) vars part = sym (term_words_are (shown names) vars part ∙ (λ i. sum_printed (shown names) vars (shows i).monos (shows i).constant)) in
-      let within = total_within others each (alone_of (is_some lead) first) (ones (is_some lead) first source) (one_within (is_some lead) first source) in
-      let words = printed ∙ ap (term_words (shown names) vars) same in
-      let sum = from_steps (wrap total) (wrap_twice total) steps (source, each) [] refl (omega (arith, within, wrap_no_larger total)) (omega arith) at (subst (Holds written at) (sym words) holds) in
-      told_as same words (sym (made_notes spot scope lead first others)) sum
+  pub sum_again : (steps : List RawStep) → AreSources steps → 1 ≤ length steps → (at : ℕ) → Holds c.written at (term_words (shown_in c) c.vars (term_of c.texts (names_in c) c.scope (made_of steps)))
+      → IsAgainInside c (syntax.sum a) (sum_as c spot) (made_of steps) at
+  sum_again steps each some at holds =
+      let total = total_of (pos 0) steps in
+      let z = wrap total in
+      let f = found_in steps each in
+      let shows = out-roll-Term (record { monos = given_in f.found; constant = z }) in
+      let part : Term = roll-Term (record { monos = given_in f.found; constant = z }) in
+      let same : part ≡ term_of c.texts (names_in c) c.scope (made_of steps) = (λ i. roll-Term (record { monos = f.monos i; constant = z })) ∙ sym (made_term c.texts (names_in c) c.scope steps) in
+      let printed : sum_printed (shown_in c) c.vars (given_in f.found) z ≡ term_words (shown_in c) c.vars part =
+      sym (term_words_are (shown_in c) c.vars part ∙ (λ i. sum_printed (shown_in c) c.vars (shows i).monos (shows i).constant)) in
+      let words = printed ∙ ap (term_words (shown_in c) c.vars) same in
+      let within = f.within (pos 0) 0 (omega (arith, ints)) in
+      told_as same words (sym (made_notes spot c.scope steps))
+      (sum_printed_again f.found f.readable f.alones z (all_notes steps) (wrap_twice total) f.tellings f.counted (omega (arith, some, f.some)) (omega (arith, within, wrap_no_larger total)) at (subst (Holds c.written at) (sym words) holds))

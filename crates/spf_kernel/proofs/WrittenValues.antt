@@ -1,77 +1,242 @@
 -- Values are written again: the words that a value is printed as are read as the same value.
-use Rattle.std.proofs.Common.{ℕ, zero, suc, ◌+◌, List, [], ◌∷◌, codes, ap, sym, ◌∙◌, subst, inl, inr}
-use Rattle.spf_lex.specs.Grammar.{Grammar, Or}
+use Rattle.std.proofs.Common.{◌≡◌, ℕ, zero, suc, ◌+◌, ◌≤◌, ◌^◌, Bool, true, false, List, [], ◌∷◌, ◌++◌, map, flat_map, Option, None, Some, is_some, refl, ap, sym, ◌∙◌, subst, inl, inr, codes}
+use Rattle.std.specs.Prelude.{if◌then◌else◌}
+use Rattle.std.specs.List.{list_any}
+use Rattle.std.specs.Str.{bytes_eq}
+use Rattle.spf_lex.specs.BundleWords.{bundle_words, same_kind}
 use Rattle.spf_lex.specs.Derivation.{Derivation}
+use Rattle.spf_lex.specs.Language.{Lexed}
+use Rattle.spf_lex.specs.Production.{Production, ◌<$>◌, flag, separated, between, and_more, one_of}
+use Rattle.spf_lex.specs.declared.cursor.Token.{Token}
+use Rattle.spf_lex.specs.declared.kind.Kind.{Kind}
+use Rattle.spf_lex.specs.declared.kind.Kind.TheVariants as kind
+use Rattle.spf_lex.proofs.FixedWords.{symbol_fixed}
 use Rattle.spf_lex.proofs.Leaves.{Leaves}
-use Rattle.spf_kernel.specs.declared.kind.Kind.{Kind}
-use Rattle.spf_kernel.specs.declared.token.Token.{Token}
+use Rattle.spf_lex.proofs.PrintedWords.{Holds, stands_inside, behind_word, on_left, absent}
+use Rattle.spf_term.specs.declared.term.Term.{Term}
 use Rattle.spf_kernel.specs.declared.note.Note.{Note}
+use Rattle.spf_kernel.specs.declared.note.Says.TheVariants.{Used}
+use Rattle.spf_kernel.specs.declared.note.Says.TheVariants as says_is
+use Rattle.spf_kernel.specs.declared.note.Spot.TheVariants as spot_is
 use Rattle.spf_kernel.specs.declared.note.Scope.{Scope}
-use Rattle.spf_kernel.specs.declared.raw.RawValue.{RawValue}
+use Rattle.spf_kernel.specs.declared.raw.RawIx.{RawIx}
+use Rattle.spf_kernel.specs.declared.raw.RawAtom.{out-roll-RawAtom}
+use Rattle.spf_kernel.specs.declared.raw.RawValue.{RawValue, roll-RawValue, out-roll-RawValue}
+use Rattle.spf_kernel.specs.declared.raw.RawSummand.{RawSummand}
 use Rattle.spf_kernel.specs.declared.raw.RawFactor.{RawFactor}
-use Rattle.spf_kernel.specs.declared.raw.RawFactor.TheVariants.{Paren}
-use Rattle.spf_kernel.specs.declared.tree.Value.{Value}
+use Rattle.spf_kernel.specs.declared.raw.RawFactor.TheVariants as raw_factor
+use Rattle.spf_kernel.specs.declared.tree.Value.{Value, roll-Value, out-roll-Value}
+use Rattle.spf_kernel.specs.declared.tree.Prod.{Prod}
+use Rattle.spf_kernel.specs.declared.tree.Factor.{Factor}
 use Rattle.spf_kernel.specs.declared.tree.Factor.TheVariants as factor
-use Rattle.spf_kernel.specs.KernelGrammar.{numeral, atom, parenthesized, sum_of, prod_of, fact, value}
-use Rattle.spf_kernel.specs.Names.{Names, names_of}
-use Rattle.spf_kernel.specs.Printed.{fact_words, value_words}
-use Rattle.spf_kernel.specs.RawTree.{value_sum_in, fact_in, value_in}
-use Rattle.spf_kernel.specs.Resolved.{value_of}
-use Rattle.spf_kernel.proofs.NoteEquations.{paren_notes_are}
-use Rattle.spf_kernel.proofs.SpelledParts.{on_left, on_right, in_parentheses}
-use Rattle.spf_kernel.proofs.Spelling.{holds_both}
-use Rattle.spf_kernel.proofs.Told.{AreKept}
-use Rattle.spf_kernel.proofs.ValueEquations.{paren_is}
-use Rattle.spf_kernel.proofs.Written.{IsScoped, Holds, shown}
-use Rattle.spf_kernel.proofs.WrittenFactors.{AreWrittenFactors, AreWrittenValues, number_factor_written, name_factor_written}
-use Rattle.spf_kernel.proofs.WrittenParts.{written_by}
-use Rattle.spf_kernel.proofs.WrittenProducts.{sum_written}
+use Rattle.spf_kernel.specs.Names.{Names, number_of}
+use Rattle.spf_kernel.specs.Notes.{note, value_notes, fact_notes, subscript_notes}
+use Rattle.spf_kernel.specs.Printed.{sign_word, lead_words, term_words, fact_words, prod_words, value_words}
+use Rattle.spf_kernel.specs.Printed as printed
+use Rattle.spf_kernel.specs.Productions.{Syntax, named}
+use Rattle.spf_kernel.specs.Productions as syntax
+use Rattle.spf_kernel.specs.Resolved.{variable_of, table_of, data_array_of, is_data_array, bare_factor, term_of, value_of, factor_of, factor_at, product}
+use Rattle.spf_kernel.specs.Rules.{text_of}
+use Rattle.spf_kernel.proofs.Alike.{alike_none, alike_said, alike_used}
+use Rattle.spf_kernel.proofs.FittingNames.{IsBare, bare_fits, IsEntry, entry_fits}
+use Rattle.spf_kernel.proofs.NoteEquations.{summand_notes, value_notes_are, paren_notes_are}
+use Rattle.spf_kernel.proofs.PrintEquations.{value_words_are}
+use Rattle.spf_kernel.proofs.Told.{Alike, IsKept}
+use Rattle.spf_kernel.proofs.ValueEquations.{summand_of, value_is, paren_is}
+use Rattle.spf_kernel.proofs.Written.{in_scope, IsFixedWord, IsLeaf, Context, source, names_in, shown_in, token_of, Meaning, AreFit, IsWritten, AreWritten, written_by, name_written}
+use Rattle.spf_kernel.proofs.WrittenParts.{worded, pair_of, each_of, sign_as, in_a_row, both, made_written, both_written, between_written, either_written, row_written, separated_written, sign_written}
+use Rattle.spf_kernel.proofs.WrittenSigns.{IsRead, number_written, summand_sign_written, summand_lead_written}
+use Rattle.spf_kernel.proofs.WrittenTerms.{in_brackets, ix_written}
 
-module _ (texts written : List (List ℕ)) (notes : List Note) (vars : List (List ℕ)) (scope again : Scope) where
+abbrev pub fact_as : Context → Meaning RawFactor Factor
+fact_as c = in_scope c factor_of fact_notes fact_words
+
+abbrev pub value_as : Context → Meaning RawValue Value
+value_as c = in_scope c value_of value_notes value_words
+
+-- ---- a name as a factor, told by what stands in the brackets behind it
+
+abbrev name_fact : Token → Option RawIx → RawFactor
+name_fact name at = raw_factor.Name (named name at)
+
+fact_means : (texts : List (List ℕ)) (names : Names) (scope : Scope) (name : Token) (at : Option RawIx) → factor_of texts names scope (name_fact name at) ≡ factor_at texts names scope name at
+fact_means texts names scope name at = λ i. factor_at texts names scope (out-roll-RawAtom (record { name = name; at = at }) i).name (out-roll-RawAtom (record { name = name; at = at }) i).at
+
+abbrev read_by : Scope → Token → Option RawIx → List Note
+read_by scope name at = note name says_is.Factor ∷ note name (Used (is_some at) spot_is.Factor scope) ∷ subscript_notes scope at
+
+fact_notes_are : (scope : Scope) (name : Token) (at : Option RawIx) → fact_notes scope (name_fact name at) ≡ read_by scope name at
+fact_notes_are scope name at = λ i. read_by scope (out-roll-RawAtom (record { name = name; at = at }) i).name (out-roll-RawAtom (record { name = name; at = at }) i).at
+
+module _ (c : Context) where
+  abbrev s : Rattle.spf_kernel.proofs.Written.Source
+  s = source c
+
   abbrev names : Names
-  names = names_of texts notes
+  names = names_in c
 
-  abbrev IsWrittenFactor : (g : Grammar Kind) → (Derivation Token g → RawFactor) → Type 0
-  IsWrittenFactor = AreWrittenFactors texts written notes vars scope again
+  abbrev printed_as : Factor → List (List ℕ)
+  printed_as = fact_words (shown_in c) c.vars
 
-  -- a text of either grammar is written again where each text of each is
-  either_written : (g h : Grammar Kind) (raw_of : Derivation Token (Or g h) → RawFactor) → IsWrittenFactor g (λ d. raw_of (inl d)) → IsWrittenFactor h (λ d. raw_of (inr d)) → IsWrittenFactor (Or g h) raw_of
-  unfolding Leaves
-  either_written g h raw_of left right (inl d) leaves kept at holds =
-      let is = left d leaves kept at holds in
-      record { text = on_left is.text; means = is.means; alike = is.alike }
-  either_written g h raw_of left right (inr d) leaves kept at holds =
-      let is = right d leaves kept at holds in
-      record { text = on_right is.text; means = is.means; alike = is.alike }
+  -- ---- numbers
 
-  -- a value in parentheses
-  paren_written : (v : Grammar Kind) (make : Derivation Token v → RawValue) → AreWrittenValues texts written notes vars scope again v make → IsWrittenFactor (parenthesized v) (λ d. Paren (make d.1.0))
-  unfolding Leaves
-  paren_written v make one (opened, (x, closed)) leaves kept at holds =
-      let made = value_of texts names scope (make x) in
-      let inside = value_words (shown names) vars made in
-      let same = paren_is texts names scope (make x) in
-      let words = ap (fact_words (shown names) vars) same in
-      let notes_are = paren_notes_are scope (make x) in
-      let there = subst (Holds written at) words holds in
-      let is = one x leaves.1.0 (subst (AreKept texts notes) notes_are kept) (at + 1) (holds_both written (at + 1) inside (codes ")" ∷ []) there.1).0 in
-      written_by words (in_parentheses at is.text)
-      (paren_is written names again (make is.text.derivation) ∙ (ap (λ (inside : Value). factor.Paren inside) is.means ∙ sym same))
-      (rw (notes_are, paren_notes_are again (make is.text.derivation)) is.alike)
+  number_small : (d : Derivation (Lexed Kind) syntax.number.shape.grammar) → Leaves (IsLeaf c.texts) syntax.number.shape.grammar d → (syntax.number.make d).value ≤ 2 ^ 63
+  unfolding Leaves syntax.number
+  number_small (inl token) leaf = leaf.value
+  number_small (inr token) leaf = leaf.value
 
-  module _ (scoped : IsScoped texts written vars scope again) where
-    fact_written : (depth : ℕ) → IsWrittenFactor (fact depth) (fact_in depth)
-    unfolding fact fact_in
-    fact_written zero =
-        either_written numeral (atom 5) (fact_in zero) (number_factor_written texts written notes vars scope again) (name_factor_written texts written notes vars scope again scoped)
-    fact_written (suc depth) =
-        let nested = sum_of (prod_of (fact depth)) in
-        let inside = sum_written texts written notes vars scope again (fact depth) (fact_in depth) (fact_written depth) in
-        either_written numeral (Or (parenthesized nested) (atom 5)) (fact_in (suc depth)) (number_factor_written texts written notes vars scope again)
-        (either_written (parenthesized nested) (atom 5) (λ x. fact_in (suc depth) (inr x)) (paren_written nested (value_sum_in (fact depth) (fact_in depth)) inside) (name_factor_written texts written notes vars scope again scoped))
+  number_factor : AreWritten s (raw_factor.Number <$> syntax.number) (fact_as c)
+  number_factor d leaves fit at holds =
+      let is = number_written (syntax.number.make d).value at (number_small d leaves) in
+      record { text = is.text; means = ap (λ n. factor.Number n) is.same; alike = alike_said _ _ says_is.Factor refl alike_none }
 
-pub value_written : (texts written : List (List ℕ)) (notes : List Note) (vars : List (List ℕ)) (scope again : Scope) → IsScoped texts written vars scope again
-    → AreWrittenValues texts written notes vars scope again value value_in
-unfolding value value_in
-value_written texts written notes vars scope again scoped =
-    sum_written texts written notes vars scope again (fact 8) (fact_in 8) (fact_written texts written notes vars scope again scoped 8)
+  -- ---- names
+
+  -- a name without brackets is printed as its text
+  bare_words : (name : Token) → IsKept c.texts c.notes (note name (Used false spot_is.Factor c.scope)) → printed_as (factor_at c.texts names c.scope name None) ≡ text_of c.texts name ∷ []
+  bare_words name kept = by (variable_of c.texts c.scope name) (bare_fits c.texts c.notes IsShown spot_is.Factor c.scope name kept.fits (c.scoped.named name)) where
+    IsShown : ℕ → Type 0
+    IsShown variable = Rattle.spf_kernel.specs.TreeNames.name_at c.vars variable ≡ text_of c.texts name
+
+    by : (found : Option ℕ) → IsBare c.texts c.notes IsShown name found → printed_as (bare_factor c.texts names found name) ≡ text_of c.texts name ∷ []
+    by (Some variable) named = ap (λ word. word ∷ []) named
+    by None number = ap (λ word. word ∷ []) number.named
+
+  -- the same text is the same variable or parameter
+  bare_same : (name other : Token) → text_of c.written other ≡ text_of c.texts name → factor_at c.written names c.again other None ≡ factor_at c.texts names c.scope name None
+  bare_same name other e = ap (λ variable. bare_factor c.written names variable other) (c.scoped.variable name other e) ∙ by (variable_of c.texts c.scope name) where
+    by : (variable : Option ℕ) → bare_factor c.written names variable other ≡ bare_factor c.texts names variable name
+    by (Some variable) = refl
+    by None = ap (λ text. factor.Param (number_of names.params text)) e
+
+  -- a name with brackets is printed as its text too
+  entry_words_are : (name : Token) (x : RawIx) → IsKept c.texts c.notes (note name (Used true spot_is.Factor c.scope))
+      → printed_as (factor_at c.texts names c.scope name (Some x)) ≡ text_of c.texts name ∷ codes "[" ∷ term_words (shown_in c) c.vars (term_of c.texts names c.scope x) ++ codes "]" ∷ []
+  entry_words_are name x kept = by (is_data_array c.texts names name) (entry_fits c.texts c.notes c.scope name kept.fits) where
+    after : List (List ℕ)
+    after = codes "[" ∷ term_words (shown_in c) c.vars (term_of c.texts names c.scope x) ++ codes "]" ∷ []
+
+    by : (b : Bool) → IsEntry c.texts c.notes name b
+        → printed_as (if b then factor.Cell (data_array_of c.texts names name) (term_of c.texts names c.scope x) else factor.Index (table_of c.texts names name) (term_of c.texts names c.scope x)) ≡ text_of c.texts name ∷ after
+    by true number = ap (λ word. word ∷ after) number.named
+    by false number = ap (λ word. word ∷ after) number.named
+
+  -- the entry of the array with this text
+  abbrev entry_by : List ℕ → Term → Factor
+  entry_by text sub = if list_any (bytes_eq text) names.data_arrays then factor.Cell (number_of names.data_arrays text) sub else factor.Index (number_of names.tables text) sub
+
+  read_alike : (name other : Token) (at again : Option RawIx) → is_some again ≡ is_some at → text_of c.written other ≡ text_of c.texts name → Alike c.texts c.written (subscript_notes c.scope at) (subscript_notes c.again again)
+      → Alike c.texts c.written (fact_notes c.scope (name_fact name at)) (fact_notes c.again (name_fact other again))
+  read_alike name other at again brackets e rest =
+      rw (fact_notes_are c.scope name at, fact_notes_are c.again other again, brackets)
+      (alike_said name other says_is.Factor refl (alike_used name other (is_some at) spot_is.Factor c.scope c.again e c.scoped.outer c.scoped.inner rest))
+
+  name_factor : (depth : ℕ) → AreWritten s (raw_factor.Name <$> syntax.atom (suc depth)) (fact_as c)
+  unfolding Leaves syntax.atom syntax.subscripted syntax.ix
+  name_factor depth (name, inr none) leaves fit at holds =
+      let text = text_of c.texts name.token in
+      let other = token_of at text in
+      let meant = fact_means c.texts names c.scope name.token None in
+      let uses = subst (AreFit s) (fact_notes_are c.scope name.token None) fit in
+      let words = ap printed_as meant ∙ bare_words name.token uses.1.0 in
+      let there = subst (Holds c.written at) words holds in
+      let is = name_written c.texts c.written name text at leaves.0 refl there.0 in
+      written_by words (behind_word at is.fixed (absent (at + 1)))
+      (fact_means c.written names c.again other None ∙ bare_same name.token other is.same ∙ sym meant)
+      (read_alike name.token other None None refl is.same alike_none)
+  name_factor depth (name, inl (opened, (x, closed))) leaves fit at holds =
+      let text = text_of c.texts name.token in
+      let other = token_of at text in
+      let raw = (syntax.ix depth).make x in
+      let sub = term_words (shown_in c) c.vars (term_of c.texts names c.scope raw) in
+      let meant = fact_means c.texts names c.scope name.token (Some raw) in
+      let uses = subst (AreFit s) (fact_notes_are c.scope name.token (Some raw)) fit in
+      let words = ap printed_as meant ∙ entry_words_are name.token raw uses.1.0 in
+      let there = subst (Holds c.written at) words holds in
+      let inside = ix_written c spot_is.Body refl depth x leaves.1.1.0 uses.1.1 (at + 1 + 1) (stands_inside c.written (at + 1) (codes "[") sub (codes "]") there.1) in
+      let again = (syntax.ix depth).make inside.text.derivation in
+      let is = name_written c.texts c.written name text at leaves.0 refl there.0 in
+      written_by words (behind_word at is.fixed (on_left (in_brackets (at + 1) inside.text)))
+      (fact_means c.written names c.again other (Some again) ∙ (λ i. entry_by (is.same i) (inside.means i)) ∙ sym meant)
+      (read_alike name.token other (Some raw) (Some again) refl is.same inside.alike)
+
+  -- ---- products
+
+  abbrev summand_as : Meaning RawSummand Prod
+  summand_as = in_scope c summand_of summand_notes prod_words
+
+  abbrev facts_as : Meaning (List RawFactor) (List Factor)
+  facts_as = each_of (fact_as c) (printed.separated (codes "*") printed_as)
+
+  -- the words of a product, with those of a sign in front
+  abbrev with_sign : (Bool → List (List ℕ)) → Prod → List (List ℕ)
+  with_sign sign prod = sign prod.minus ++ prod_words (shown_in c) c.vars prod
+
+  module _ (f : Syntax RawFactor) (one : AreWritten s f (fact_as c)) where
+    summand_written : {empty : Bool} (p : Production same_kind empty Bool) (sign : Bool → List (List ℕ)) → ((minus : Bool) (at : ℕ) → IsRead p (λ b. b) minus (sign minus) at)
+        → AreWritten s ((λ x. syntax.summand x.0 x.1) <$> both p (separated kind.Star f)) (worded summand_as (with_sign sign))
+    summand_written p sign reads =
+        made_written (both p (separated kind.Star f)) (pair_of (sign_as (λ b. b) sign) facts_as) (worded summand_as (with_sign sign)) (λ x. syntax.summand x.0 x.1)
+        (record { fit = λ r fit. fit; words = λ r fit. refl; means = λ r again same i. product (same i).0 (same i).1; alike = λ r again same alike. alike })
+        (both_written p (separated kind.Star f) (sign_as (λ b. b) sign) facts_as (sign_written p (λ b. b) sign reads)
+        (separated_written f (fact_as c) (symbol_fixed bundle_words kind.Star (codes "*") refl refl) one))
+
+    abbrev row_words : List Prod → List (List ℕ)
+    row_words = in_a_row (with_sign lead_words) (with_sign (λ minus. sign_word minus ∷ []))
+
+    row_is : (prods : List Prod) → value_words (shown_in c) c.vars (roll-Value (record { prods = prods })) ≡ row_words prods
+    row_is prods = value_words_are (shown_in c) c.vars (roll-Value (record { prods = prods })) ∙ ap signed (λ i. (out-roll-Value (record { prods = prods }) i).prods) ∙ by prods where
+      signed : List Prod → List (List ℕ)
+      signed prods = printed.signed (λ (prod : Prod). prod.minus) (prod_words (shown_in c) c.vars) prods
+
+      by : (prods : List Prod) → printed.signed (λ (prod : Prod). prod.minus) (prod_words (shown_in c) c.vars) prods ≡ row_words prods
+      by [] = refl
+      by (prod ∷ prods) = refl
+
+    value_rolled : (texts : List (List ℕ)) (scope : Scope) (summands : List RawSummand) → value_of texts names scope (roll-RawValue (record { summands = summands })) ≡ roll-Value (record { prods = map (summand_of texts names scope) summands })
+    value_rolled texts scope summands =
+        value_is texts names scope (roll-RawValue (record { summands = summands })) ∙ (λ i. roll-Value (record { prods = map (summand_of texts names scope) (out-roll-RawValue (record { summands = summands }) i).summands }))
+
+    notes_rolled : (scope : Scope) (summands : List RawSummand) → value_notes scope (roll-RawValue (record { summands = summands })) ≡ flat_map (summand_notes scope) summands
+    notes_rolled scope summands = value_notes_are scope (roll-RawValue (record { summands = summands })) ∙ (λ i. flat_map (summand_notes scope) (out-roll-RawValue (record { summands = summands }) i).summands)
+
+    -- a sum of products is written again where each of its factors is
+    sum_written : AreWritten s (syntax.value_of f) (value_as c)
+    unfolding syntax.value_of syntax.first_summand syntax.next_summand
+    sum_written =
+        made_written (and_more (syntax.first_summand f) (syntax.next_summand f)) (each_of summand_as row_words) (value_as c) (λ summands. roll-RawValue (record { summands = summands }))
+        (record {
+          fit = λ r. subst (AreFit s) (notes_rolled c.scope r);
+          words = λ r fit. ap (value_words (shown_in c) c.vars) (value_rolled c.texts c.scope r) ∙ row_is (map (summand_of c.texts names c.scope) r);
+          means = λ r again same. value_rolled c.written c.again again ∙ (λ i. roll-Value (record { prods = same i })) ∙ sym (value_rolled c.texts c.scope r);
+          alike = λ r again same alike. rw (notes_rolled c.scope r, notes_rolled c.again again) alike;
+        })
+        (row_written (syntax.first_summand f) (syntax.next_summand f) (worded summand_as (with_sign lead_words)) (with_sign (λ minus. sign_word minus ∷ []))
+        (summand_written (flag kind.Minus) lead_words summand_lead_written)
+        (summand_written (one_of (kind.Plus, false) ((kind.Minus, true) ∷ [])) (λ minus. sign_word minus ∷ []) summand_sign_written))
+
+  -- ---- values in parentheses
+
+  paren_written : (p : Syntax RawValue) → AreWritten s p (value_as c) → AreWritten s (raw_factor.Paren <$> between kind.OpenParenthesis kind.CloseParenthesis p) (fact_as c)
+  paren_written p one =
+      made_written (between kind.OpenParenthesis kind.CloseParenthesis p) (worded (value_as c) (λ x. codes "(" ∷ (value_words (shown_in c) c.vars x ++ codes ")" ∷ []))) (fact_as c) raw_factor.Paren
+      (record {
+        fit = λ r. subst (AreFit s) (paren_notes_are c.scope r);
+        words = λ r fit. ap printed_as (paren_is c.texts names c.scope r);
+        means = λ r again same. paren_is c.written names c.again again ∙ ap (λ (inside : Value). factor.Paren inside) same ∙ sym (paren_is c.texts names c.scope r);
+        alike = λ r again same alike. rw (paren_notes_are c.scope r, paren_notes_are c.again again) alike;
+      })
+      (between_written p (value_as c) (symbol_fixed bundle_words kind.OpenParenthesis (codes "(") refl refl) (symbol_fixed bundle_words kind.CloseParenthesis (codes ")") refl refl) one)
+
+  -- by induction on how deep parentheses may still stand
+  fact_written : (depth : ℕ) → AreWritten s (syntax.fact depth) (fact_as c)
+  unfolding syntax.fact syntax.plain syntax.nested
+  fact_written zero = either_written (raw_factor.Number <$> syntax.number) syntax.plain (fact_as c) number_factor (name_factor 4)
+  fact_written (suc depth) =
+      let value = syntax.value_of (syntax.fact depth) in
+      either_written (raw_factor.Number <$> syntax.number) (syntax.nested value) (fact_as c) number_factor
+      (either_written (raw_factor.Paren <$> between kind.OpenParenthesis kind.CloseParenthesis value) syntax.plain (fact_as c) (paren_written value (sum_written (syntax.fact depth) (fact_written depth))) (name_factor 4))
+
+  pub value_written : (depth : ℕ) → AreWritten s (syntax.value depth) (value_as c)
+  unfolding syntax.value
+  value_written depth = sum_written (syntax.fact depth) (fact_written depth)

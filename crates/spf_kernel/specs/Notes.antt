@@ -1,12 +1,12 @@
 -- The notes of a raw tree, in the order of its text.
 use Rattle.std.specs.Prelude.{true, false, List, [], ◌∷◌, ◌++◌, Option, None, Some, is_some, map, flat_map}
 use Rattle.std.specs.Option.{unwrap_or}
-use Rattle.spf_kernel.specs.declared.token.Token.{Token}
+use Rattle.spf_lex.specs.declared.cursor.Token.{Token}
 use Rattle.spf_kernel.specs.declared.raw.RawIx.{RawIx, RawIx', out-RawIx, Row_of-RawStep, end_of-RawStep, more_of-RawStep}
+use Rattle.spf_kernel.specs.declared.raw.RawStep.{RawStep}
 use Rattle.spf_kernel.specs.declared.raw.RawMono.{RawMono, Number', Atom, RawMono-Number-1-None', RawMono-Number-1-Some'}
 use Rattle.spf_kernel.specs.declared.raw.RawAtom.{RawAtom, out-RawAtom, RawAtom', RawAtom-at-None', RawAtom-at-Some', Row_of-RawIx, end_of-RawIx, more_of-RawIx}
 use Rattle.spf_kernel.specs.declared.raw.RawValue.{RawValue, RawValue', Row_of-RawFactor, end_of-RawFactor, more_of-RawFactor, Row_of-RawSummand, end_of-RawSummand, more_of-RawSummand}
-use Rattle.spf_kernel.specs.declared.raw.RawProd.{RawProd}
 use Rattle.spf_kernel.specs.declared.raw.RawFactor.{RawFactor, Paren', Row_of-RawValue, end_of-RawValue, more_of-RawValue}
 use Rattle.spf_kernel.specs.declared.raw.RawFactor.TheVariants as factor_is
 use Rattle.spf_kernel.specs.declared.raw.RawAssign.{RawAssign}
@@ -40,14 +40,23 @@ abbrev pub mono_head : RawMono → Token
 mono_head (Number' number times) = number
 mono_head (Atom atom) = (out-RawAtom atom).name
 
+-- the token that the first step has; an index expression has one
+abbrev steps_head : (RawStep → Token) → List RawStep → Token
+steps_head head [] = record { at = 0; value = 0 }
+steps_head head (step ∷ steps) = head step
+
 -- the first token of an index expression, which may be a `-`
 abbrev pub ix_head : RawIx → Token
-ix_head ix = unwrap_or (out-RawIx ix).lead (mono_head (out-RawIx ix).first)
+ix_head ix = steps_head (λ step. unwrap_or step.minus (mono_head step.mono)) (out-RawIx ix).steps
+
+-- the first token of its first monomial
+abbrev pub expression_head : RawIx → Token
+expression_head ix = steps_head (λ step. mono_head step.mono) (out-RawIx ix).steps
 
 module _ (spot : Spot) (scope : Scope) where
   abbrev mutual
     pub ix_notes : RawIx → List Note
-    ix_notes (RawIx' lead first shape others) = mono_notes first ++ steps_notes others
+    ix_notes (RawIx' shape steps) = steps_notes steps
 
     pub steps_notes : {n : _} → Row_of-RawStep n → List Note
     steps_notes end_of-RawStep = []
@@ -68,7 +77,12 @@ module _ (spot : Spot) (scope : Scope) where
 
   -- an index expression that stands in no other one
   abbrev pub expression_notes : RawIx → List Note
-  expression_notes ix = note (mono_head (out-RawIx ix).first) Expression ∷ ix_notes ix
+  expression_notes ix = note (expression_head ix) Expression ∷ ix_notes ix
+
+-- the first token of the conditions of an `if`, which has one
+abbrev pub conds_head : List RawCond → Token
+conds_head [] = record { at = 0; value = 0 }
+conds_head (cond ∷ conds) = ix_head cond.left
 
 -- ---- values and statements, where these variables are in scope
 
@@ -89,15 +103,15 @@ module _ (scope : Scope) where
 
   abbrev mutual
     pub value_notes : RawValue → List Note
-    value_notes (RawValue' minus first shape facts shape_of_others others) = (fact_notes first ++ facts_notes facts) ++ summands_notes others
+    value_notes (RawValue' shape summands) = summands_notes summands
+
+    pub summands_notes : {n : _} → Row_of-RawSummand n → List Note
+    summands_notes end_of-RawSummand = []
+    summands_notes (more_of-RawSummand minus shape facts others) = facts_notes facts ++ summands_notes others
 
     pub facts_notes : {n : _} → Row_of-RawFactor n → List Note
     facts_notes end_of-RawFactor = []
     facts_notes (more_of-RawFactor fact others) = fact_notes fact ++ facts_notes others
-
-    pub summands_notes : {n : _} → Row_of-RawSummand n → List Note
-    summands_notes end_of-RawSummand = []
-    summands_notes (more_of-RawSummand minus first shape facts others) = (fact_notes first ++ facts_notes facts) ++ summands_notes others
 
     pub fact_notes : RawFactor → List Note
     fact_notes (factor_is.Number number) = note number Factor ∷ []
@@ -108,9 +122,6 @@ module _ (scope : Scope) where
     inside_notes end_of-RawValue = []
     inside_notes (more_of-RawValue value others) = value_notes value ++ inside_notes others
 
-  abbrev pub prod_notes : RawProd → List Note
-  prod_notes prod = fact_notes prod.first ++ flat_map fact_notes prod.others
-
   abbrev pub assign_notes : RawAssign → List Note
   assign_notes assign = note assign.array (Used true spot_is.Target scope) ∷ body_notes assign.at ++ value_notes assign.value
 
@@ -118,7 +129,7 @@ module _ (scope : Scope) where
   cond_notes cond = note (ix_head cond.left) Condition ∷ body_notes cond.left ++ body_notes cond.right
 
   abbrev pub guard_notes : RawGuard → List Note
-  guard_notes guard = note (ix_head guard.first.left) Guard ∷ cond_notes guard.first ++ flat_map cond_notes guard.others ++ flat_map assign_notes guard.body
+  guard_notes guard = note (conds_head guard.conds) Guard ∷ flat_map cond_notes guard.conds ++ flat_map assign_notes guard.body
 
   abbrev pub part_notes : RawPart → List Note
   part_notes (part_is.Assign assign) = assign_notes assign
@@ -153,9 +164,9 @@ abbrev pub cells_notes : RawSized → List Note
 cells_notes array = note array.name (Declared sort_is.Data) ∷ head_notes array.size
 
 abbrev pub decl_notes : RawDecl → List Note
-decl_notes (Params first others) = param_note first ∷ map param_note others
+decl_notes (Params names) = map param_note names
 decl_notes (Index array low high trend) = note array.name (Declared sort_is.Index) ∷ head_notes array.size ++ head_notes low ++ head_notes high
-decl_notes (Values first others) = cells_notes first ++ flat_map cells_notes others
+decl_notes (Values arrays) = flat_map cells_notes arrays
 
 -- the notes of a kernel
 unfoldable pub kernel_notes : RawKernel → List Note

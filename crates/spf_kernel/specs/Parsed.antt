@@ -1,17 +1,20 @@
 -- The kernels that a text holds, and what reading one answers.
 use Rattle.std.specs.Prelude.{ℕ, ◌≡◌, List, length, Result, Ok, Err, ⊤}
 use Rattle.spf_base.specs.declared.place.Place.{Place}
+use Rattle.spf_lex.specs.Standing.{place_from}
 use Rattle.spf_lex.specs.declared.token_list.Span.{Span}
 use Rattle.spf_lex.specs.Tokens.{Tokenized, IsTokenized, HasTokens, texts}
 use Rattle.spf_kernel.specs.declared.raw.RawKernel.{RawKernel}
 use Rattle.spf_kernel.specs.declared.tree.Tree.{Tree}
 use Rattle.spf_kernel.specs.declared.fault.KernelFault.{KernelFault}
 use Rattle.spf_kernel.specs.declared.fault.KernelFault.TheVariants.{Syntax, Rule, Memory}
+use Rattle.spf_kernel.specs.declared.fault.Unkept.{Unkept}
+use Rattle.spf_kernel.specs.declared.fault.Unkept.TheVariants as unkept
 use Rattle.spf_kernel.specs.Notes.{kernel_notes}
 use Rattle.spf_kernel.specs.Rules.{IsUnbroken, IsFirstBreach}
 use Rattle.spf_kernel.specs.Names.{names_of}
 use Rattle.spf_kernel.specs.Resolved.{tree_of}
-use Rattle.spf_kernel.specs.Stands.{StandsAt, IsSyntaxFault, place_from}
+use Rattle.spf_kernel.specs.Stands.{StandsAt, IsSyntaxFault}
 
 -- what a raw tree means
 abbrev pub meaning : List (List ℕ) → RawKernel → Tree
@@ -45,6 +48,12 @@ pub record IsTextOf (text : List ℕ) (tree : Tree) : Type 0 where
   pub spans : List Span
   pub tokens : HasTokens text spans
   pub parses : ParsesTo (record { text = text; spans = spans }) 0 (length spans) tree
+
+-- what `judge` says of a raw tree: what it means, or the first rule that it breaks; out of memory is free
+abbrev pub IsVerdict : Tokenized → RawKernel → Result Tree Unkept → Type 0
+IsVerdict tokens raw (Ok tree) = IsUnbroken (texts tokens) (kernel_notes raw) × (tree ≡ meaning (texts tokens) raw)
+IsVerdict tokens raw (Err (unkept.Rule place rule)) = (at : ℕ) × IsFirstBreach (texts tokens) (kernel_notes raw) at rule × (place ≡ place_from tokens at)
+IsVerdict tokens raw (Err unkept.Memory) = ⊤
 
 -- what `parse` answers; want of memory is free
 abbrev pub IsAnswer : Tokenized → ℕ → Result (Tree × ℕ) KernelFault → Type 0

@@ -8,7 +8,7 @@ use Rattle.spf_term.specs.declared.term.Term.{Term, roll-Term}
 use Rattle.spf_term.specs.declared.term.Mono.{Mono, roll-Mono}
 use Rattle.spf_term.specs.declared.term.Atom.{Atom}
 use Rattle.spf_term.specs.declared.term.Atom.TheVariants as atom
-use Rattle.spf_kernel.specs.declared.token.Token.{Token}
+use Rattle.spf_lex.specs.declared.cursor.Token.{Token}
 use Rattle.spf_kernel.specs.declared.note.Scope.{Scope}
 use Rattle.spf_kernel.specs.declared.raw.RawIx.{RawIx, RawIx', out-RawIx, Row_of-RawStep, end_of-RawStep, more_of-RawStep}
 use Rattle.spf_kernel.specs.declared.raw.RawStep.{RawStep}
@@ -16,7 +16,6 @@ use Rattle.spf_kernel.specs.declared.raw.RawMono.{RawMono, Number', RawMono-Numb
 use Rattle.spf_kernel.specs.declared.raw.RawMono as raw_mono
 use Rattle.spf_kernel.specs.declared.raw.RawAtom.{RawAtom, out-RawAtom, RawAtom', RawAtom-at-None', RawAtom-at-Some', end_of-RawIx, more_of-RawIx}
 use Rattle.spf_kernel.specs.declared.raw.RawValue.{RawValue, RawValue', Row_of-RawFactor, end_of-RawFactor, more_of-RawFactor, Row_of-RawSummand, end_of-RawSummand, more_of-RawSummand}
-use Rattle.spf_kernel.specs.declared.raw.RawProd.{RawProd}
 use Rattle.spf_kernel.specs.declared.raw.RawFactor.{RawFactor, Paren', end_of-RawValue, more_of-RawValue}
 use Rattle.spf_kernel.specs.declared.raw.RawFactor.TheVariants as raw_factor
 use Rattle.spf_kernel.specs.declared.raw.RawAssign.{RawAssign}
@@ -69,7 +68,7 @@ alone_of minus mono = pos 0
 
 -- the sum of the monomials that are numbers
 abbrev pub constant_of : RawIx → ℤ
-constant_of ix = fold (λ total (step : RawStep). total +ℤ alone_of step.minus step.mono) (alone_of (is_some (out-RawIx ix).lead) (out-RawIx ix).first) (out-RawIx ix).others
+constant_of ix = fold (λ total (step : RawStep). total +ℤ alone_of (is_some step.minus) step.mono) (pos 0) (out-RawIx ix).steps
 
 -- ---- names
 
@@ -114,14 +113,11 @@ module _ (texts : List (List ℕ)) (names : Names) (scope : Scope) where
 
   abbrev mutual
     pub term_of : RawIx → Term
-    term_of (RawIx' lead first shape others) = roll-Term (record {
-      monos = monos_of (is_some lead) first ++ more_monos others;
-      constant = wrap (constant_of (RawIx' lead first shape others));
-    })
+    term_of (RawIx' shape steps) = roll-Term (record { monos = more_monos steps; constant = wrap (constant_of (RawIx' shape steps)) })
 
     pub more_monos : {n : _} → Row_of-RawStep n → List Mono
     more_monos end_of-RawStep = []
-    more_monos (more_of-RawStep minus mono others) = monos_of minus mono ++ more_monos others
+    more_monos (more_of-RawStep minus mono others) = monos_of (is_some minus) mono ++ more_monos others
 
     -- the monomial, where it has an atom
     pub monos_of : Bool → RawMono → List Mono
@@ -146,24 +142,20 @@ module _ (texts : List (List ℕ)) (names : Names) (scope : Scope) where
 
   abbrev mutual
     pub value_of : RawValue → Value
-    value_of (RawValue' minus first shape facts shape_of_others others) =
-        roll-Value (record { prods = product minus (factor_of first ∷ more_factors facts) ∷ more_prods others })
+    value_of (RawValue' shape summands) = roll-Value (record { prods = more_prods summands })
+
+    pub more_prods : {n : _} → Row_of-RawSummand n → List Prod
+    more_prods end_of-RawSummand = []
+    more_prods (more_of-RawSummand minus shape facts others) = product minus (more_factors facts) ∷ more_prods others
 
     pub more_factors : {n : _} → Row_of-RawFactor n → List Factor
     more_factors end_of-RawFactor = []
     more_factors (more_of-RawFactor fact others) = factor_of fact ∷ more_factors others
 
-    pub more_prods : {n : _} → Row_of-RawSummand n → List Prod
-    more_prods end_of-RawSummand = []
-    more_prods (more_of-RawSummand minus first shape facts others) = product minus (factor_of first ∷ more_factors facts) ∷ more_prods others
-
     pub factor_of : RawFactor → Factor
     factor_of (raw_factor.Number number) = factor.Number number.value
     factor_of (Paren' shape (more_of-RawValue inside end_of-RawValue)) = factor.Paren (value_of inside)
     factor_of (raw_factor.Name name) = name_factor name
-
-  abbrev pub prod_of : Bool → RawProd → Prod
-  prod_of minus prod = product minus (factor_of prod.first ∷ map factor_of prod.others)
 
   -- ---- statements
 
@@ -179,7 +171,7 @@ module _ (texts : List (List ℕ)) (names : Names) (scope : Scope) where
   cond_of cond = record { left = term_of cond.left; sign = cond.sign; right = term_of cond.right }
 
   abbrev pub guard_of : RawGuard → Guard
-  guard_of guard = record { conds = map cond_of (guard.first ∷ guard.others); body = map assign_of guard.body }
+  guard_of guard = record { conds = map cond_of guard.conds; body = map assign_of guard.body }
 
   abbrev pub part_of : RawPart → Part
   part_of (raw_part.Assign assign) = part.Assign (assign_of assign)
@@ -216,9 +208,9 @@ module _ (texts : List (List ℕ)) (names : Names) where
   table_decl_of array low high trend = decl.Index (text_of texts array.name) (head_of array.size) (head_of low) (head_of high) trend
 
   abbrev pub decl_of : RawDecl → Decl
-  decl_of (raw_decl.Params first others) = decl.Params (map (text_of texts) (first ∷ others))
+  decl_of (raw_decl.Params names) = decl.Params (map (text_of texts) names)
   decl_of (raw_decl.Index array low high trend) = table_decl_of array low high trend
-  decl_of (raw_decl.Values first others) = decl.Values (map data_decl_of (first ∷ others))
+  decl_of (raw_decl.Values arrays) = decl.Values (map data_decl_of arrays)
 
   -- the tree that a kernel means
   abbrev pub tree_of : RawKernel → Tree

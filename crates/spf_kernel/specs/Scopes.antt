@@ -1,6 +1,6 @@
 -- The variables that are in scope.
 use Rattle.std.specs.Prelude.{None, Some}
-use Rattle.spf_kernel.specs.declared.token.Token.{Token}
+use Rattle.spf_lex.specs.declared.cursor.Token.{Token}
 use Rattle.spf_kernel.specs.declared.note.Scope.{Scope}
 
 abbrev pub nothing : Scope

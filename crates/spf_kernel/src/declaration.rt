@@ -1,118 +1,65 @@
 //! Readers of declarations and of the whole kernel.
 
 ghost use Rattle.std.specs.Prelude.{◌≡◌};
-ghost use Rattle.spf_kernel.specs.Reader.{Reads, sees};
-ghost use Rattle.spf_kernel.specs.declared.kind.Kind.TheVariants as kind;
-ghost use Rattle.spf_kernel.specs.Reading as reading;
+ghost use Rattle.spf_lex.specs.Production.{begins};
+ghost use Rattle.spf_lex.specs.Reader.{Reads, Takes};
+ghost use Rattle.spf_kernel.specs.Productions as p;
 
-use crate::cursor::{Cursor, ReadFault};
 use crate::ix::{BRACKETS, in_brackets, ix};
-use crate::kind::Kind;
 use crate::raw::{RawDecl, RawKernel, RawSized};
-use crate::repeated::{Part, repeated};
-use crate::token::Token;
 use crate::tree::Trend;
+use spf_lex::{Cursor, Kind, Part, ReadFault, TextPart, Unexpected, keyword, repeated, separated};
 use std::alloc::Global;
 
-#[tactic(auto, unfolding(crate::specs::Reading::next_name))]
-fn next_name(tokens: &mut Cursor) -> Result<Token, ReadFault>
-    ensures { Reads (reading.next_name tokens.old) result tokens.new }
-{
-    tokens.expect(Kind::Comma)?;
-    tokens.expect(Kind::Name)
-}
-
-impl Part for Token {
-    ghost begins = { sees kind.Comma };
-
-    ghost reading = { reading.next_name };
-
-    fn begins(tokens: &Cursor) -> bool {
-        tokens.sees(Kind::Comma)
-    }
-
-    fn read(_alloc: Global, tokens: &mut Cursor) -> Result<Token, ReadFault> {
-        next_name(tokens)
-    }
-}
-
-#[tactic(auto, unfolding(crate::specs::Reading::params))]
-fn params(alloc: Global, tokens: &mut Cursor) -> Result<RawDecl, ReadFault>
-    ensures { Reads (reading.params tokens.old) result tokens.new }
+#[tactic(auto, unfolding(crate::specs::Productions::params))]
+fn params(alloc: Global, tokens: &mut Cursor<Kind>) -> Result<RawDecl, ReadFault>
+    ensures { Reads (p.params.read tokens.old) result tokens.new }
 {
     tokens.expect(Kind::Param)?;
-    let first = tokens.expect(Kind::Name)?;
-    let others = repeated(alloc, tokens)?;
+    let names = separated(alloc, tokens, Kind::Comma)?;
     tokens.expect(Kind::Semicolon)?;
-    Ok(RawDecl::Params(first, others))
+    Ok(RawDecl::Params(names))
 }
 
-#[tactic(auto, unfolding(crate::specs::Reading::sized))]
-fn sized(alloc: Global, tokens: &mut Cursor) -> Result<RawSized, ReadFault>
-    ensures { Reads (reading.sized tokens.old) result tokens.new }
-{
-    let name = tokens.expect(Kind::Name)?;
-    let size = in_brackets(alloc, tokens)?;
-    Ok(RawSized { name, size })
-}
+impl Part<Kind> for RawSized {
+    ghost begins = { begins p.sized };
 
-#[tactic(auto, unfolding(crate::specs::Reading::next_sized))]
-fn next_sized(alloc: Global, tokens: &mut Cursor) -> Result<RawSized, ReadFault>
-    ensures { Reads (reading.next_sized tokens.old) result tokens.new }
-{
-    tokens.expect(Kind::Comma)?;
-    sized(alloc, tokens)
-}
+    ghost reading = { p.sized.read };
 
-impl Part for RawSized {
-    ghost begins = { sees kind.Comma };
-
-    ghost reading = { reading.next_sized };
-
-    fn begins(tokens: &Cursor) -> bool {
-        tokens.sees(Kind::Comma)
+    #[tactic(auto, unfolding(crate::specs::Productions::sized, spf_lex::specs::LookAhead::first, spf_lex::specs::LookAhead::nullable))]
+    fn begins(tokens: &Cursor<Kind>) -> bool {
+        tokens.sees_any(&[Kind::Name])
     }
 
-    fn read(alloc: Global, tokens: &mut Cursor) -> Result<RawSized, ReadFault> {
-        next_sized(alloc, tokens)
+    #[tactic(auto, unfolding(crate::specs::Productions::sized))]
+    fn read(alloc: Global, tokens: &mut Cursor<Kind>) -> Result<RawSized, ReadFault> {
+        let name = tokens.expect(Kind::Name)?;
+        let size = in_brackets(alloc, tokens)?;
+        Ok(RawSized { name, size })
     }
 }
 
-#[tactic(auto, unfolding(crate::specs::Reading::begins_trend))]
-fn begins_trend(tokens: &Cursor) -> bool
-    ensures { result ≡ reading.begins_trend tokens.now }
+#[tactic(auto, unfolding(crate::specs::Productions::trend, spf_lex::specs::LookAhead::first))]
+fn trend(tokens: &mut Cursor<Kind>) -> Result<Trend, Unexpected>
+    ensures { Takes (p.trend.read tokens.old) result tokens.new }
 {
-    tokens.sees(Kind::Monotone) || tokens.sees(Kind::Strict)
-}
-
-#[tactic(auto, unfolding(crate::specs::Reading::told_trend))]
-fn told_trend(tokens: &mut Cursor) -> Result<Trend, ReadFault>
-    ensures { Reads (reading.told_trend tokens.old) result tokens.new }
-{
-    if tokens.eat(Kind::Monotone) {
-        return Ok(Trend::Monotone);
-    }
-    tokens.expect(Kind::Strict)?;
-    Ok(Trend::Strict)
-}
-
-#[tactic(auto, unfolding(crate::specs::Reading::trend))]
-fn trend(tokens: &mut Cursor) -> Result<Trend, ReadFault>
-    ensures { Reads (reading.trend tokens.old) result tokens.new }
-{
-    if begins_trend(tokens) {
-        told_trend(tokens)
+    if tokens.sees_any(&[Kind::Monotone, Kind::Strict]) {
+        let trends = [
+            (Kind::Monotone, Trend::Monotone),
+            (Kind::Strict, Trend::Strict),
+        ];
+        keyword(tokens, &trends)
     } else {
         Ok(Trend::Free)
     }
 }
 
-#[tactic(auto, unfolding(crate::specs::Reading::index))]
-fn index(alloc: Global, tokens: &mut Cursor) -> Result<RawDecl, ReadFault>
-    ensures { Reads (reading.index tokens.old) result tokens.new }
+#[tactic(auto, unfolding(crate::specs::Productions::index))]
+fn index(alloc: Global, tokens: &mut Cursor<Kind>) -> Result<RawDecl, ReadFault>
+    ensures { Reads (p.index.read tokens.old) result tokens.new }
 {
     tokens.expect(Kind::Index)?;
-    let array = sized(alloc, tokens)?;
+    let array = RawSized::read(alloc, tokens)?;
     tokens.expect(Kind::In)?;
     let low = ix(alloc, tokens, BRACKETS)?;
     tokens.expect(Kind::Range)?;
@@ -127,67 +74,70 @@ fn index(alloc: Global, tokens: &mut Cursor) -> Result<RawDecl, ReadFault>
     })
 }
 
-#[tactic(auto, unfolding(crate::specs::Reading::values))]
-fn values(alloc: Global, tokens: &mut Cursor) -> Result<RawDecl, ReadFault>
-    ensures { Reads (reading.values tokens.old) result tokens.new }
+#[tactic(auto, unfolding(crate::specs::Productions::values))]
+fn values(alloc: Global, tokens: &mut Cursor<Kind>) -> Result<RawDecl, ReadFault>
+    ensures { Reads (p.values.read tokens.old) result tokens.new }
 {
     tokens.expect(Kind::Data)?;
-    let first = sized(alloc, tokens)?;
-    let others = repeated(alloc, tokens)?;
+    let arrays = separated(alloc, tokens, Kind::Comma)?;
     tokens.expect(Kind::Semicolon)?;
-    Ok(RawDecl::Values(first, others))
+    Ok(RawDecl::Values(arrays))
 }
 
-#[tactic(auto, unfolding(crate::specs::Reading::decl))]
-fn decl(alloc: Global, tokens: &mut Cursor) -> Result<RawDecl, ReadFault>
-    ensures { Reads (reading.decl tokens.old) result tokens.new }
-{
-    if tokens.sees(Kind::Param) {
-        params(alloc, tokens)
-    } else if tokens.sees(Kind::Index) {
-        index(alloc, tokens)
-    } else {
-        values(alloc, tokens)
+impl Part<Kind> for RawDecl {
+    ghost begins = { begins p.decl };
+
+    ghost reading = { p.decl.read };
+
+    #[tactic(auto, unfolding(crate::specs::Productions::decl, crate::specs::Productions::params, crate::specs::Productions::index, crate::specs::Productions::values, spf_lex::specs::LookAhead::first, spf_lex::specs::LookAhead::nullable))]
+    fn begins(tokens: &Cursor<Kind>) -> bool {
+        tokens.sees_any(&[Kind::Param, Kind::Index, Kind::Data])
+    }
+
+    #[tactic(auto, unfolding(crate::specs::Productions::decl, crate::specs::Productions::params, crate::specs::Productions::index, spf_lex::specs::LookAhead::first, spf_lex::specs::LookAhead::nullable))]
+    fn read(alloc: Global, tokens: &mut Cursor<Kind>) -> Result<RawDecl, ReadFault> {
+        if tokens.sees_any(&[Kind::Param]) {
+            params(alloc, tokens)
+        } else if tokens.sees_any(&[Kind::Index]) {
+            index(alloc, tokens)
+        } else {
+            values(alloc, tokens)
+        }
     }
 }
 
-#[tactic(auto, unfolding(crate::specs::Reading::begins_decl))]
-fn begins_decl(tokens: &Cursor) -> bool
-    ensures { result ≡ reading.begins_decl tokens.now }
-{
-    tokens.sees(Kind::Param) || tokens.sees(Kind::Index) || tokens.sees(Kind::Data)
-}
+impl Part<Kind> for RawKernel {
+    ghost begins = { begins p.kernel };
 
-impl Part for RawDecl {
-    ghost begins = { reading.begins_decl };
+    ghost reading = { p.kernel.read };
 
-    ghost reading = { reading.decl };
-
-    fn begins(tokens: &Cursor) -> bool {
-        begins_decl(tokens)
+    #[tactic(auto, unfolding(crate::specs::Productions::kernel, spf_lex::specs::LookAhead::first, spf_lex::specs::LookAhead::nullable))]
+    fn begins(tokens: &Cursor<Kind>) -> bool {
+        tokens.sees_any(&[Kind::Kernel])
     }
 
-    fn read(alloc: Global, tokens: &mut Cursor) -> Result<RawDecl, ReadFault> {
-        decl(alloc, tokens)
+    /// A kernel. Linear in its tokens.
+    #[tactic(auto, unfolding(crate::specs::Productions::kernel))]
+    fn read(alloc: Global, tokens: &mut Cursor<Kind>) -> Result<RawKernel, ReadFault> {
+        tokens.expect(Kind::Kernel)?;
+        tokens.expect(Kind::OpenBrace)?;
+        let decls = repeated(alloc, tokens)?;
+        tokens.expect(Kind::Steps)?;
+        let steps = ix(alloc, tokens, BRACKETS)?;
+        tokens.expect(Kind::Semicolon)?;
+        let loops = repeated(alloc, tokens)?;
+        tokens.expect(Kind::CloseBrace)?;
+        Ok(RawKernel {
+            decls,
+            steps,
+            loops,
+        })
     }
 }
 
-/// A kernel. Linear in its tokens.
-#[tactic(auto, unfolding(crate::specs::Reading::kernel))]
-pub fn kernel(alloc: Global, tokens: &mut Cursor) -> Result<RawKernel, ReadFault>
-    ensures { Reads (reading.kernel tokens.old) result tokens.new }
-{
-    tokens.expect(Kind::Kernel)?;
-    tokens.expect(Kind::OpenBrace)?;
-    let decls = repeated(alloc, tokens)?;
-    tokens.expect(Kind::Steps)?;
-    let steps = ix(alloc, tokens, BRACKETS)?;
-    tokens.expect(Kind::Semicolon)?;
-    let loops = repeated(alloc, tokens)?;
-    tokens.expect(Kind::CloseBrace)?;
-    Ok(RawKernel {
-        decls,
-        steps,
-        loops,
-    })
+impl TextPart<Kind> for RawKernel {
+    ghost use Rattle.spf_lex.specs.BundleWords.{same_kind};
+    ghost use Rattle.spf_lex.specs.Suffix.{leaves_suffix};
+
+    ghost suffix = { leaves_suffix same_kind p.kernel };
 }

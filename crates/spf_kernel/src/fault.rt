@@ -30,3 +30,23 @@ impl From<NoMemory> for KernelFault {
         KernelFault::Memory
     }
 }
+
+/// Why a raw tree is no kernel.
+#[derive(Debug, Drop, Error)]
+pub enum Unkept {
+    /// The token there breaks this rule.
+    #[error("rule")]
+    Rule { place: Place, rule: u32 },
+    #[error("out of memory")]
+    Memory,
+}
+
+impl From<NoMemory> for Unkept {
+    ghost use Rattle.spf_kernel.specs.declared.fault.Unkept.TheVariants.{Memory};
+
+    ghost from_gives = { λ _ fault. fault ≡ Memory };
+
+    fn from(_error: NoMemory) -> Unkept {
+        Unkept::Memory
+    }
+}

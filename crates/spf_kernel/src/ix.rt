@@ -1,32 +1,26 @@
 //! Readers of index expressions, with brackets so many deep.
 
-ghost use Rattle.std.specs.Prelude.{◌≡◌, ◌<◌, ◌-◌};
-ghost use Rattle.spf_kernel.specs.Reader.{Reads, many};
-ghost use Rattle.spf_kernel.specs.Reading as reading;
+ghost use Rattle.std.specs.Prelude.{ℕ, ◌≡◌, ◌<◌, ◌-◌, ◌++◌};
+ghost use Rattle.spf_lex.specs.BundleWords.{same_kind};
+ghost use Rattle.spf_lex.specs.Derivation.{made};
+ghost use Rattle.spf_lex.specs.Production.{begins, behind, between, optional, token};
+ghost use Rattle.spf_lex.specs.Reader.{Reads, Takes, repeat};
+ghost use Rattle.spf_lex.specs.declared.kind.Kind.TheVariants as kind;
+ghost use Rattle.spf_kernel.specs.Productions as p;
 
-use crate::cursor::{Cursor, ReadFault};
-use crate::kind::Kind;
 use crate::raw::{RawAtom, RawIx, RawMono, RawStep};
-use crate::token::Token;
+use spf_lex::{Cursor, Kind, ReadFault, Token, Unexpected};
 use sqlite_items::{Boxed, Items};
 use std::alloc::Global;
 
-/// How deep brackets stand.
+/// Greatest nesting depth of brackets.
 pub const BRACKETS: u32 = 5;
 
-/// Whether a number begins.
-#[tactic(auto, unfolding(crate::specs::Reading::begins_number))]
-pub fn begins_number(tokens: &Cursor) -> bool
-    ensures { result ≡ reading.begins_number tokens.now }
+#[tactic(auto, unfolding(crate::specs::Productions::number, spf_lex::specs::LookAhead::first))]
+pub fn number(tokens: &mut Cursor<Kind>) -> Result<Token, Unexpected>
+    ensures { Takes (p.number.read tokens.old) result tokens.new }
 {
-    tokens.sees(Kind::One) || tokens.sees(Kind::Number)
-}
-
-#[tactic(auto, unfolding(crate::specs::Reading::number))]
-pub fn number(tokens: &mut Cursor) -> Result<Token, ReadFault>
-    ensures { Reads (reading.number tokens.old) result tokens.new }
-{
-    if tokens.sees(Kind::One) {
+    if tokens.sees_any(&[Kind::One]) {
         tokens.expect(Kind::One)
     } else {
         tokens.expect(Kind::Number)
@@ -34,87 +28,106 @@ pub fn number(tokens: &mut Cursor) -> Result<Token, ReadFault>
 }
 
 /// The `-` that may stand in front of a sum.
-#[tactic(auto, unfolding(crate::specs::Reading::lead))]
-fn lead(tokens: &mut Cursor) -> Result<Option<Token>, ReadFault>
-    ensures { Reads (reading.lead tokens.old) result tokens.new }
+#[tactic(auto, unfolding(spf_lex::specs::LookAhead::first))]
+fn leading_minus(tokens: &mut Cursor<Kind>) -> Result<Option<Token>, Unexpected>
+    ensures { Takes ((optional (token {same = same_kind} kind.Minus)).read tokens.old) result tokens.new }
 {
-    if tokens.sees(Kind::Minus) {
-        Ok(Some(tokens.expect(Kind::Minus)?))
-    } else {
-        Ok(None)
+    if !tokens.sees_any(&[Kind::Minus]) {
+        return Ok(None);
     }
+    Ok(Some(tokens.expect(Kind::Minus)?))
 }
 
-/// Whether a sign begins, and with it a further part of a sum.
-#[tactic(auto, unfolding(crate::specs::Reading::begins_step))]
-pub fn begins_step(tokens: &Cursor) -> bool
-    ensures { result ≡ reading.begins_step tokens.now }
+/// A sign, and the token of a `-`.
+#[tactic(auto, unfolding(crate::specs::Productions::sign, spf_lex::specs::LookAhead::first))]
+fn sign(tokens: &mut Cursor<Kind>) -> Result<Option<Token>, Unexpected>
+    ensures { Takes (p.sign.read tokens.old) result tokens.new }
 {
-    tokens.sees(Kind::Plus) || tokens.sees(Kind::Minus)
-}
-
-/// A sign, and whether it is `-`.
-#[tactic(auto, unfolding(crate::specs::Reading::sign))]
-pub fn sign(tokens: &mut Cursor) -> Result<bool, ReadFault>
-    ensures { Reads (reading.sign tokens.old) result tokens.new }
-{
-    if tokens.eat(Kind::Plus) {
-        return Ok(false);
+    if tokens.sees_any(&[Kind::Plus]) {
+        tokens.expect(Kind::Plus)?;
+        return Ok(None);
     }
-    tokens.expect(Kind::Minus)?;
-    Ok(true)
+    Ok(Some(tokens.expect(Kind::Minus)?))
 }
 
-/// A monomial that begins with this number.
+/// An atom behind `*`, where one stands.
 #[cycle(ix)]
-#[tactic(auto, unfolding(crate::specs::Reading::factor))]
-fn factor(
-    alloc: Global,
-    tokens: &mut Cursor,
-    depth: u32,
-    number: Token,
-) -> Result<RawMono, ReadFault>
-    ensures { Reads (reading.factor (reading.atom depth) number tokens.old) result tokens.new }
+#[tactic(auto, unfolding(spf_lex::specs::LookAhead::first, spf_lex::specs::LookAhead::nullable))]
+fn times(alloc: Global, tokens: &mut Cursor<Kind>, depth: u32) -> Result<Option<RawAtom>, ReadFault>
+    ensures { Reads ((optional (behind kind.Star (p.atom depth))).read tokens.old) result tokens.new }
 {
-    if !tokens.eat(Kind::Star) {
-        return Ok(RawMono::Number(number, None));
+    if !tokens.sees_any(&[Kind::Star]) {
+        return Ok(None);
     }
-    let atom = atom(alloc, tokens, depth)?;
-    Ok(RawMono::Number(number, Some(atom)))
+    tokens.expect(Kind::Star)?;
+    Ok(Some(atom(alloc, tokens, depth)?))
 }
 
 #[cycle(ix)]
-#[tactic(auto, unfolding(crate::specs::Reading::mono))]
-fn mono(alloc: Global, tokens: &mut Cursor, depth: u32) -> Result<RawMono, ReadFault>
-    ensures { Reads (reading.mono (reading.atom depth) tokens.old) result tokens.new }
+#[tactic(auto, unfolding(crate::specs::Productions::numbered))]
+fn numbered(alloc: Global, tokens: &mut Cursor<Kind>, depth: u32) -> Result<RawMono, ReadFault>
+    ensures { Reads ((p.numbered (p.atom depth)).read tokens.old) result tokens.new }
 {
-    if !begins_number(tokens) {
+    let number = number(tokens)?;
+    let times = times(alloc, tokens, depth)?;
+    Ok(RawMono::Number(number, times))
+}
+
+#[cycle(ix)]
+#[tactic(auto, unfolding(crate::specs::Productions::mono, crate::specs::Productions::numbered, crate::specs::Productions::number, spf_lex::specs::LookAhead::first, spf_lex::specs::LookAhead::nullable))]
+fn mono(alloc: Global, tokens: &mut Cursor<Kind>, depth: u32) -> Result<RawMono, ReadFault>
+    ensures { Reads ((p.mono (p.atom depth)).read tokens.old) result tokens.new }
+{
+    if !tokens.sees_any(&[Kind::One, Kind::Number]) {
         return Ok(RawMono::Atom(atom(alloc, tokens, depth)?));
     }
-    let number = number(tokens)?;
-    factor(alloc, tokens, depth, number)
+    numbered(alloc, tokens, depth)
 }
 
 #[cycle(ix)]
-#[tactic(auto, unfolding(crate::specs::Reading::step))]
-fn step(alloc: Global, tokens: &mut Cursor, depth: u32) -> Result<RawStep, ReadFault>
-    ensures { Reads (reading.step (reading.atom depth) tokens.old) result tokens.new }
+#[tactic(auto, unfolding(crate::specs::Productions::first_step))]
+fn first_step(alloc: Global, tokens: &mut Cursor<Kind>, depth: u32) -> Result<RawStep, ReadFault>
+    ensures { Reads ((p.first_step (p.atom depth)).read tokens.old) result tokens.new }
+{
+    let minus = leading_minus(tokens)?;
+    let mono = mono(alloc, tokens, depth)?;
+    Ok(RawStep { minus, mono })
+}
+
+#[cycle(ix)]
+#[tactic(auto, unfolding(crate::specs::Productions::next_step))]
+fn next_step(alloc: Global, tokens: &mut Cursor<Kind>, depth: u32) -> Result<RawStep, ReadFault>
+    ensures { Reads ((p.next_step (p.atom depth)).read tokens.old) result tokens.new }
 {
     let minus = sign(tokens)?;
     let mono = mono(alloc, tokens, depth)?;
     Ok(RawStep { minus, mono })
 }
 
-#[cycle(ix)]
-fn steps(alloc: Global, tokens: &mut Cursor, depth: u32) -> Result<Items<RawStep>, ReadFault>
-    ensures { Reads (many reading.begins_step (reading.step (reading.atom depth)) tokens.old) result tokens.new }
+/// Whether a sign begins, and with it a further monomial or product.
+#[tactic(auto, unfolding(crate::specs::Productions::next_step, crate::specs::Productions::sign, crate::specs::Productions::next_summand, spf_lex::specs::LookAhead::first, spf_lex::specs::LookAhead::nullable))]
+pub fn begins_sign(tokens: &Cursor<Kind>) -> bool
+    ensures monomial { (depth : ℕ) → result ≡ begins (p.next_step (p.atom depth)) tokens.now }
+    ensures product { (depth : ℕ) → result ≡ begins (p.next_summand (p.fact depth)) tokens.now }
 {
-    let mut steps = Items::new(alloc);
+    tokens.sees_any(&[Kind::Plus, Kind::Minus])
+}
+
+/// Reads further monomials onto a list.
+#[cycle(ix)]
+fn next_steps(
+    alloc: Global,
+    tokens: &mut Cursor<Kind>,
+    depth: u32,
+    mut steps: Items<RawStep>,
+) -> Result<Items<RawStep>, ReadFault>
+    ensures { Reads (made (λ others. steps ++ others) (repeat (begins (p.next_step (p.atom depth))) (p.next_step (p.atom depth)).read tokens.old)) result tokens.new }
+{
     for _turn in 0..tokens.left() {
-        if !begins_step(tokens) {
+        if !begins_sign(tokens) {
             return Ok(steps);
         }
-        let step = step(alloc, tokens, depth)?;
+        let step = next_step(alloc, tokens, depth)?;
         steps.push(step)?;
     }
     Ok(steps)
@@ -122,61 +135,60 @@ fn steps(alloc: Global, tokens: &mut Cursor, depth: u32) -> Result<Items<RawStep
 
 /// An index expression. Linear in its tokens.
 #[cycle(ix)]
-#[tactic(auto, unfolding(crate::specs::Reading::sum, crate::specs::Reading::ix))]
-pub fn ix(alloc: Global, tokens: &mut Cursor, depth: u32) -> Result<RawIx, ReadFault>
-    ensures { Reads (reading.ix depth tokens.old) result tokens.new }
+#[tactic(auto, unfolding(crate::specs::Productions::sum, crate::specs::Productions::ix))]
+pub fn ix(alloc: Global, tokens: &mut Cursor<Kind>, depth: u32) -> Result<RawIx, ReadFault>
+    ensures { Reads ((p.ix depth).read tokens.old) result tokens.new }
 {
-    let lead = lead(tokens)?;
-    let first = mono(alloc, tokens, depth)?;
-    let others = steps(alloc, tokens, depth)?;
-    Ok(RawIx {
-        lead,
-        first,
-        others,
-    })
+    let first = first_step(alloc, tokens, depth)?;
+    let mut steps = Items::new(alloc);
+    steps.push(first)?;
+    let steps = next_steps(alloc, tokens, depth, steps)?;
+    Ok(RawIx { steps })
 }
 
-/// What stands behind a name: an index expression in brackets, where brackets may still stand, or nothing.
+/// An index expression in brackets.
 #[cycle(ix)]
-#[tactic(auto, unfolding(crate::specs::Reading::at_name, crate::specs::Reading::ix))]
-fn at_name(
-    alloc: Global,
-    tokens: &mut Cursor,
-    depth: u32,
-    name: Token,
-) -> Result<RawAtom, ReadFault>
-    requires { 0 < depth }
-    ensures { Reads (reading.at_name (reading.ix (depth - 1)) name tokens.old) result tokens.new }
+fn bracketed(alloc: Global, tokens: &mut Cursor<Kind>, depth: u32) -> Result<RawIx, ReadFault>
+    ensures { Reads ((between kind.OpenBracket kind.CloseBracket (p.ix depth)).read tokens.old) result tokens.new }
 {
-    if !tokens.eat(Kind::OpenBracket) {
+    tokens.expect(Kind::OpenBracket)?;
+    let at = ix(alloc, tokens, depth)?;
+    tokens.expect(Kind::CloseBracket)?;
+    Ok(at)
+}
+
+/// A name, and an index expression in brackets behind it, where one stands.
+#[cycle(ix)]
+#[tactic(auto, unfolding(crate::specs::Productions::subscripted, spf_lex::specs::LookAhead::first, spf_lex::specs::LookAhead::nullable))]
+fn subscripted(alloc: Global, tokens: &mut Cursor<Kind>, depth: u32) -> Result<RawAtom, ReadFault>
+    ensures { Reads ((p.subscripted (p.ix depth)).read tokens.old) result tokens.new }
+{
+    let name = tokens.expect(Kind::Name)?;
+    if !tokens.sees_any(&[Kind::OpenBracket]) {
         return Ok(RawAtom { name, at: None });
     }
-    let at = ix(alloc, tokens, depth - 1)?;
-    tokens.expect(Kind::CloseBracket)?;
+    let at = bracketed(alloc, tokens, depth)?;
     let at = Some(Boxed::new(alloc, at)?);
     Ok(RawAtom { name, at })
 }
 
-/// A name, with an index expression in brackets or without.
+/// A name, with an index expression in brackets where they may still stand, or without.
 #[cycle(ix)]
-#[tactic(auto, unfolding(crate::specs::Reading::atom))]
-pub fn atom(alloc: Global, tokens: &mut Cursor, depth: u32) -> Result<RawAtom, ReadFault>
-    ensures { Reads (reading.atom depth tokens.old) result tokens.new }
+#[tactic(auto, unfolding(crate::specs::Productions::atom))]
+pub fn atom(alloc: Global, tokens: &mut Cursor<Kind>, depth: u32) -> Result<RawAtom, ReadFault>
+    ensures { Reads ((p.atom depth).read tokens.old) result tokens.new }
 {
-    let name = tokens.expect(Kind::Name)?;
-    if depth == 0 {
-        return Ok(RawAtom { name, at: None });
+    if depth > 0 {
+        return subscripted(alloc, tokens, depth - 1);
     }
-    at_name(alloc, tokens, depth, name)
+    let name = tokens.expect(Kind::Name)?;
+    Ok(RawAtom { name, at: None })
 }
 
-/// An index expression in brackets, which are the first ones. Linear in its tokens.
-#[tactic(auto, unfolding(crate::specs::Reading::in_brackets))]
-pub fn in_brackets(alloc: Global, tokens: &mut Cursor) -> Result<RawIx, ReadFault>
-    ensures { Reads (reading.in_brackets tokens.old) result tokens.new }
+/// An index expression in the outermost brackets. Linear in its tokens.
+#[tactic(auto, unfolding(crate::specs::Productions::in_brackets))]
+pub fn in_brackets(alloc: Global, tokens: &mut Cursor<Kind>) -> Result<RawIx, ReadFault>
+    ensures { Reads (p.in_brackets.read tokens.old) result tokens.new }
 {
-    tokens.expect(Kind::OpenBracket)?;
-    let at = ix(alloc, tokens, BRACKETS - 1)?;
-    tokens.expect(Kind::CloseBracket)?;
-    Ok(at)
+    bracketed(alloc, tokens, BRACKETS - 1)
 }

@@ -11,11 +11,10 @@ ghost use Rattle.spf_kernel.specs.Named.{IsNamed};
 ghost use Rattle.spf_kernel.specs.Notes.{kernel_notes};
 ghost use Rattle.spf_kernel.specs.Resolved.{tree_of};
 ghost use Rattle.spf_kernel.specs.Stands.{StandsAt};
-ghost use Rattle.spf_kernel.specs.Parsed.{IsParsed, IsTextOf, IsAnswer, ParsesTo};
+ghost use Rattle.spf_kernel.specs.Parsed.{IsParsed, IsTextOf, IsAnswer, IsVerdict, ParsesTo};
 ghost use Rattle.spf_kernel.specs.Printed.{words_of};
 
-use crate::fault::KernelFault;
-use crate::found::{place_from, read_at};
+use crate::fault::{KernelFault, Unkept};
 use crate::names::Names;
 use crate::notes::notes_of;
 use crate::print_tree::tree_text;
@@ -24,12 +23,12 @@ use crate::resolve::resolve;
 use crate::rules::check;
 use crate::tree::Tree;
 use spf_base::NoMemory;
-use spf_lex::Tokens;
+use spf_lex::{Kind, PartFault, Tokens, part_at, place_from};
 use std::alloc::Global;
 use std::marker::Model;
 
 /// A kernel that some text spells and that keeps the rules, seen as its tree.
-#[derive(Debug, Drop)]
+#[derive(Drop)]
 pub struct Kernel {
     tree: Tree,
 }
@@ -77,24 +76,19 @@ fn kernel_of(
     Ok(Kernel { tree })
 }
 
-/// The kernel of a raw tree that ends in front of token `next`, or the first rule that it breaks.
-fn judge(
-    alloc: Global,
-    tokens: &Tokens,
-    raw: &RawKernel,
-    next: u32,
-) -> Result<(Kernel, u32), KernelFault>
-    requires stands { (from : ℕ) × StandsAt tokens.now from next raw.now }
+/// The kernel of a raw tree that stands somewhere among the tokens, or the first rule that it breaks. Linear in the tree,
+/// and in the bytes of the names on average.
+pub fn judge(alloc: Global, tokens: &Tokens, raw: &RawKernel) -> Result<Kernel, Unkept>
+    requires stands { (from : ℕ) × (next : ℕ) × StandsAt tokens.now from next raw.now }
     requires lexed { IsTokenized tokens.now.text tokens.now.spans }
-    ensures { (from : ℕ) → StandsAt tokens.now from next raw.now → IsAnswer tokens.now from result }
+    ensures { IsVerdict tokens.now raw.now result }
 {
     let notes = notes_of(alloc, raw)?;
     match check(alloc, tokens, notes.as_slice())? {
-        Ok(names) => Ok((kernel_of(alloc, tokens, &names, raw)?, next)),
-        Err(breach) => Err(KernelFault::Rule {
+        Ok(names) => Ok(kernel_of(alloc, tokens, &names, raw)?),
+        Err(breach) => Err(Unkept::Rule {
             place: place_from(tokens, breach.place),
             rule: breach.rule,
-            next,
         }),
     }
 }
@@ -105,11 +99,20 @@ pub fn parse(alloc: Global, tokens: &Tokens, from: u32) -> Result<(Kernel, u32),
     requires { from ≤ length (texts tokens.now) }
     ensures { IsAnswer tokens.now from result }
 {
-    let (raw, next) = read_at(alloc, tokens, from)?;
-    judge(alloc, tokens, &raw, next)
+    let _count = tokens.len();
+    let (raw, next) = match part_at::<Kind, RawKernel>(alloc, tokens, from) {
+        Ok(found) => found,
+        Err(PartFault::Syntax { place, kind }) => return Err(KernelFault::Syntax { place, kind }),
+        Err(PartFault::Memory) => return Err(KernelFault::Memory),
+    };
+    match judge(alloc, tokens, &raw) {
+        Ok(kernel) => Ok((kernel, next)),
+        Err(Unkept::Rule { place, rule }) => Err(KernelFault::Rule { place, rule, next }),
+        Err(Unkept::Memory) => Err(KernelFault::Memory),
+    }
 }
 
-/// A law, which does nothing when it is called: where a kernel that breaks no rule stands, its tree is the only answer that
+/// Law: where a kernel that breaks no rule stands, its tree is the only answer that
 /// `parse` may give, besides want of memory.
 pub fn one_answer()
     ensures { (tokens : Tokenized) (from next : ℕ) (tree : Tree) (answer : Result (Tree × ℕ) KernelFault) →

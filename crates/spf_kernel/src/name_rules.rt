@@ -14,8 +14,7 @@ ghost use Rattle.spf_kernel.specs.Before.{Tells, before_of};
 use crate::before::Before;
 use crate::names::text_of;
 use crate::note::{Note, Says, Scope, Spot};
-use crate::token::Token;
-use spf_lex::Tokens;
+use spf_lex::{Token, Tokens};
 
 /// Whether the name is that of the variable. Linear in it.
 fn names_variable(tokens: &Tokens, variable: Option<Token>, name: Token) -> bool

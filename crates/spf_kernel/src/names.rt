@@ -7,10 +7,9 @@ ghost use Rattle.indexmap.specs.IndexSet.{insert_key};
 ghost use Rattle.spf_lex.specs.Tokens.{texts};
 ghost use Rattle.spf_kernel.specs.Rules.{text_of};
 
-use crate::token::Token;
 use indexmap::IndexSet;
 use spf_base::NoMemory;
-use spf_lex::Tokens;
+use spf_lex::{Token, Tokens};
 use std::alloc::Global;
 use std::marker::Model;
 

@@ -3,10 +3,10 @@
 ghost use Rattle.std.specs.Prelude.{◌≡◌};
 ghost use Rattle.spf_kernel.specs.Scopes as scope;
 
-use crate::token::Token;
+use spf_lex::Token;
 
 /// What a declared name is.
-#[derive(Clone, Copy, Debug, PartialEq, Eq)]
+#[derive(Clone, Copy)]
 pub enum Sort {
     Param,
     /// An index array.
@@ -17,7 +17,7 @@ pub enum Sort {
 }
 
 /// Where a name is used.
-#[derive(Clone, Copy, Debug, PartialEq, Eq)]
+#[derive(Clone, Copy)]
 pub enum Spot {
     /// In the size of an array, the range of an index array, or the number of steps.
     Head,
@@ -32,7 +32,7 @@ pub enum Spot {
 }
 
 /// The variables that are in scope, by the tokens that name them.
-#[derive(Clone, Copy, Debug)]
+#[derive(Clone, Copy)]
 pub struct Scope {
     pub outer: Option<Token>,
     pub inner: Option<Token>,
@@ -71,7 +71,7 @@ impl Scope {
 }
 
 /// What is said of a token.
-#[derive(Clone, Copy, Debug)]
+#[derive(Clone, Copy)]
 pub enum Says {
     /// A parameter, an array or a loop gets its name.
     Declared(Sort),
@@ -100,7 +100,7 @@ pub enum Says {
 }
 
 /// One thing that is said, and the token that it is said of.
-#[derive(Clone, Copy, Debug)]
+#[derive(Clone, Copy)]
 pub struct Note {
     pub token: Token,
     pub says: Says,

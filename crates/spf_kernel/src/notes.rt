@@ -1,21 +1,24 @@
 //! The notes of a raw tree.
 
 ghost use Rattle.std.specs.Prelude.{◌≡◌, [], ◌∷◌, ◌++◌, map, flat_map, OnOk, IfOk};
-ghost use Rattle.spf_kernel.specs.Notes.{note, mono_head, ix_notes, mono_notes, atom_notes, expression_notes, read_notes, fact_notes, prod_notes, value_notes};
-ghost use Rattle.spf_kernel.specs.Notes.{ix_head, assign_notes, cond_notes, guard_notes, part_notes, item_notes, loop_notes, cells_notes, param_note, head_notes, decl_notes, kernel_notes};
+ghost use Rattle.spf_kernel.specs.Notes.{note, mono_head, ix_notes, mono_notes, atom_notes, expression_head, expression_notes, read_notes, fact_notes, value_notes};
+ghost use Rattle.spf_kernel.specs.Notes.{ix_head, conds_head, assign_notes, cond_notes, guard_notes, part_notes, item_notes, loop_notes, cells_notes, param_note, head_notes, decl_notes, kernel_notes};
 
 use crate::note::{Note, Says, Scope, Sort, Spot};
 use crate::raw::{
     RawAssign, RawAtom, RawCond, RawDecl, RawFactor, RawGuard, RawItem, RawIx, RawKernel, RawLoop,
-    RawMono, RawPart, RawProd, RawSized, RawValue,
+    RawMono, RawPart, RawSized, RawSummand, RawValue,
 };
-use crate::token::Token;
 use spf_base::NoMemory;
+use spf_lex::Token;
 use sqlite_items::Items;
 use std::alloc::Global;
 
+/// Where an index expression has no monomial, or an `if` no condition, which is nowhere.
+const NO_TOKEN: Token = Token { at: 0, value: 0 };
+
 /// The first token of a monomial.
-pub fn mono_head(mono: &RawMono) -> Token
+fn mono_head(mono: &RawMono) -> Token
     ensures { result ≡ mono_head mono.now }
 {
     match mono {
@@ -77,11 +80,20 @@ fn note_mono(
 fn note_ix(notes: &mut Items<Note>, spot: Spot, scope: Scope, ix: &RawIx) -> Result<(), NoMemory>
     ensures { OnOk result (notes.new ≡ notes.old ++ ix_notes spot scope ix.now) }
 {
-    note_mono(notes, spot, scope, &ix.first)?;
-    for step in ix.others.as_slice() {
+    for step in ix.steps.as_slice() {
         note_mono(notes, spot, scope, &step.mono)?;
     }
     Ok(())
+}
+
+/// The first token of the first monomial.
+fn expression_head(ix: &RawIx) -> Token
+    ensures { result ≡ expression_head ix.now }
+{
+    match ix.steps.as_slice() {
+        [first, ..] => mono_head(&first.mono),
+        [] => NO_TOKEN,
+    }
 }
 
 /// An index expression that stands in no other one. Linear in it.
@@ -93,7 +105,7 @@ pub fn note_expression(
 ) -> Result<(), NoMemory>
     ensures { OnOk result (notes.new ≡ notes.old ++ expression_notes spot scope ix.now) }
 {
-    push(notes, mono_head(&ix.first), Says::Expression)?;
+    push(notes, expression_head(ix), Says::Expression)?;
     note_ix(notes, spot, scope, ix)
 }
 
@@ -126,11 +138,10 @@ fn note_fact(notes: &mut Items<Note>, scope: Scope, fact: &RawFactor) -> Result<
 }
 
 #[cycle(value)]
-fn note_prod(notes: &mut Items<Note>, scope: Scope, prod: &RawProd) -> Result<(), NoMemory>
-    ensures { OnOk result (notes.new ≡ notes.old ++ prod_notes scope prod.now) }
+fn note_summand(notes: &mut Items<Note>, scope: Scope, summand: &RawSummand) -> Result<(), NoMemory>
+    ensures { OnOk result (notes.new ≡ notes.old ++ flat_map (fact_notes scope) summand.now.facts) }
 {
-    note_fact(notes, scope, &prod.first)?;
-    for fact in prod.others.as_slice() {
+    for fact in summand.facts.as_slice() {
         note_fact(notes, scope, fact)?;
     }
     Ok(())
@@ -141,9 +152,8 @@ fn note_prod(notes: &mut Items<Note>, scope: Scope, prod: &RawProd) -> Result<()
 pub fn note_value(notes: &mut Items<Note>, scope: Scope, value: &RawValue) -> Result<(), NoMemory>
     ensures { OnOk result (notes.new ≡ notes.old ++ value_notes scope value.now) }
 {
-    note_prod(notes, scope, &value.first)?;
-    for summand in value.others.as_slice() {
-        note_prod(notes, scope, &summand.prod)?;
+    for summand in value.summands.as_slice() {
+        note_summand(notes, scope, summand)?;
     }
     Ok(())
 }
@@ -167,9 +177,9 @@ fn note_assign(notes: &mut Items<Note>, scope: Scope, assign: &RawAssign) -> Res
 fn ix_head(ix: &RawIx) -> Token
     ensures { result ≡ ix_head ix.now }
 {
-    match ix.lead {
-        Some(minus) => minus,
-        None => mono_head(&ix.first),
+    match ix.steps.as_slice() {
+        [first, ..] => first.minus.unwrap_or(mono_head(&first.mono)),
+        [] => NO_TOKEN,
     }
 }
 
@@ -194,12 +204,21 @@ fn note_assigns(
     Ok(())
 }
 
+/// The first token of the conditions of an `if`.
+fn conds_head(conds: &[RawCond]) -> Token
+    ensures { result ≡ conds_head conds.now }
+{
+    match conds {
+        [first, ..] => ix_head(&first.left),
+        [] => NO_TOKEN,
+    }
+}
+
 fn note_guard(notes: &mut Items<Note>, scope: Scope, guard: &RawGuard) -> Result<(), NoMemory>
     ensures { OnOk result (notes.new ≡ notes.old ++ guard_notes scope guard.now) }
 {
-    push(notes, ix_head(&guard.first.left), Says::Guard)?;
-    note_cond(notes, scope, &guard.first)?;
-    for cond in guard.others.as_slice() {
+    push(notes, conds_head(guard.conds.as_slice()), Says::Guard)?;
+    for cond in guard.conds.as_slice() {
         note_cond(notes, scope, cond)?;
     }
     note_assigns(notes, scope, guard.body.as_slice())
@@ -291,10 +310,7 @@ fn note_decl(notes: &mut Items<Note>, decl: &RawDecl) -> Result<(), NoMemory>
     ensures { OnOk result (notes.new ≡ notes.old ++ decl_notes decl.now) }
 {
     match decl {
-        RawDecl::Params(first, others) => {
-            note_param(notes, *first)?;
-            note_params(notes, others.as_slice())
-        }
+        RawDecl::Params(names) => note_params(notes, names.as_slice()),
         RawDecl::Index {
             array,
             low,
@@ -306,10 +322,7 @@ fn note_decl(notes: &mut Items<Note>, decl: &RawDecl) -> Result<(), NoMemory>
             note_head(notes, low)?;
             note_head(notes, high)
         }
-        RawDecl::Values(first, others) => {
-            note_cells(notes, first)?;
-            note_all_cells(notes, others.as_slice())
-        }
+        RawDecl::Values(arrays) => note_all_cells(notes, arrays.as_slice()),
     }
 }
 

@@ -10,7 +10,7 @@ use spf_lex::Words;
 use spf_term::{Atom, Mono, Term};
 use sqlite_items::Items;
 
-/// A law, which does nothing when it is called: the numbers that a constant is printed as are as few within the limit as can
+/// Law: the numbers that a constant is printed as are as few within the limit as can
 /// be. A constant behind monomials is printed as its pieces, and one that is alone too, unless it is zero.
 #[tactic(auto, using(crate::proofs::PrintedConstants::pieces_sum, crate::proofs::FewestPieces::pieces_within, crate::proofs::FewestPieces::pieces_fewest, crate::proofs::FewestPieces::pieces_alone))]
 pub fn pieces_are_fewest()

@@ -3,31 +3,28 @@
 //! The rules are about the places of names and numbers, so that they are told of this tree, and resolving its names
 //! gives the public one.
 
-use crate::token::Token;
 use crate::tree::{Compare, Trend};
+use spf_lex::Token;
 use sqlite_items::{Boxed, Items};
 
-/// An index expression: the monomials, one behind another.
+/// An index expression: its monomials with their signs, of which there is one at least.
 #[cycle(raw_ix)]
-#[derive(Debug, Drop)]
+#[derive(Drop)]
 pub struct RawIx {
-    /// The `-` in front of the first monomial, where it stands there.
-    pub lead: Option<Token>,
-    pub first: RawMono,
-    pub others: Items<RawStep>,
+    pub steps: Items<RawStep>,
 }
 
-/// A further monomial, with the sign in front of it.
+/// A monomial, and the `-` in front of it, where one stands there.
 #[cycle(raw_ix)]
-#[derive(Debug, Drop)]
+#[derive(Drop)]
 pub struct RawStep {
-    pub minus: bool,
+    pub minus: Option<Token>,
     pub mono: RawMono,
 }
 
 /// A monomial of an index expression.
 #[cycle(raw_ix)]
-#[derive(Debug, Drop)]
+#[derive(Drop)]
 pub enum RawMono {
     /// A number, or a number times an atom.
     Number(Token, Option<RawAtom>),
@@ -36,40 +33,29 @@ pub enum RawMono {
 
 /// A name, with an index expression in brackets or without.
 #[cycle(raw_ix)]
-#[derive(Debug, Drop)]
+#[derive(Drop)]
 pub struct RawAtom {
     pub name: Token,
     pub at: Option<Boxed<RawIx>>,
 }
 
-/// A value: the products, one behind another.
+/// A value: its products with their signs, of which there is one at least.
 #[cycle(raw_value)]
-#[derive(Debug, Drop)]
+#[derive(Drop)]
 pub struct RawValue {
-    /// Whether `-` stands in front of the first product.
-    pub minus: bool,
-    pub first: RawProd,
-    pub others: Items<RawSummand>,
+    pub summands: Items<RawSummand>,
 }
 
-/// A further product, with the sign in front of it.
+/// A product, and whether `-` stands in front of it. It has one factor at least.
 #[cycle(raw_value)]
-#[derive(Debug, Drop)]
+#[derive(Drop)]
 pub struct RawSummand {
     pub minus: bool,
-    pub prod: RawProd,
-}
-
-/// A product: the factors, one behind another.
-#[cycle(raw_value)]
-#[derive(Debug, Drop)]
-pub struct RawProd {
-    pub first: RawFactor,
-    pub others: Items<RawFactor>,
+    pub facts: Items<RawFactor>,
 }
 
 #[cycle(raw_value)]
-#[derive(Debug, Drop)]
+#[derive(Drop)]
 pub enum RawFactor {
     Number(Token),
     /// A value in parentheses.
@@ -78,7 +64,7 @@ pub enum RawFactor {
 }
 
 /// An assignment to the array of this name.
-#[derive(Debug, Drop)]
+#[derive(Drop)]
 pub struct RawAssign {
     pub array: Token,
     pub at: RawIx,
@@ -87,43 +73,42 @@ pub struct RawAssign {
     pub value: RawValue,
 }
 
-#[derive(Debug, Drop)]
+#[derive(Drop)]
 pub struct RawCond {
     pub left: RawIx,
     pub sign: Compare,
     pub right: RawIx,
 }
 
-/// An `if`: the conditions, one behind another, and the assignments.
-#[derive(Debug, Drop)]
+/// An `if`: its conditions, of which there is one at least, and the assignments.
+#[derive(Drop)]
 pub struct RawGuard {
-    pub first: RawCond,
-    pub others: Items<RawCond>,
+    pub conds: Items<RawCond>,
     pub body: Items<RawAssign>,
 }
 
 /// A variable and its bounds.
-#[derive(Debug, Drop)]
+#[derive(Drop)]
 pub struct RawRange {
     pub var: Token,
     pub low: RawIx,
     pub high: RawIx,
 }
 
-#[derive(Debug, Drop)]
+#[derive(Drop)]
 pub enum RawPart {
     Assign(RawAssign),
     Guard(RawGuard),
 }
 
-#[derive(Debug, Drop)]
+#[derive(Drop)]
 pub enum RawItem {
     Part(RawPart),
     /// A `for`.
     Inner(RawRange, Items<RawPart>),
 }
 
-#[derive(Debug, Drop)]
+#[derive(Drop)]
 pub struct RawLoop {
     pub name: Token,
     pub range: RawRange,
@@ -131,26 +116,26 @@ pub struct RawLoop {
 }
 
 /// The name of an array and its size.
-#[derive(Debug, Drop)]
+#[derive(Drop)]
 pub struct RawSized {
     pub name: Token,
     pub size: RawIx,
 }
 
-/// A declaration; the names of a list are the first and the others.
-#[derive(Debug, Drop)]
+/// A declaration. Each list has one entry at least.
+#[derive(Drop)]
 pub enum RawDecl {
-    Params(Token, Items<Token>),
+    Params(Items<Token>),
     Index {
         array: RawSized,
         low: RawIx,
         high: RawIx,
         trend: Trend,
     },
-    Values(RawSized, Items<RawSized>),
+    Values(Items<RawSized>),
 }
 
-#[derive(Debug, Drop)]
+#[derive(Drop)]
 pub struct RawKernel {
     pub decls: Items<RawDecl>,
     pub steps: RawIx,

@@ -1,36 +1,35 @@
-//! Reading a kernel's raw tree.
+//! Laws on the raw trees of kernels, and on where kernels stand.
 
 ghost use Rattle.std.specs.Prelude.{◌≡◌, ◌++◌, ℕ, List, All, drop};
 ghost use Rattle.spf_base.specs.Word.{IsName};
-ghost use Rattle.spf_lex.specs.Tokens.{IsTokenText};
+ghost use Rattle.spf_base.specs.declared.place.Place.{Place};
+ghost use Rattle.spf_lex.specs.BundleWords.{bundle_words};
+ghost use Rattle.spf_lex.specs.Language.{Lexed, tokens_of};
+ghost use Rattle.spf_lex.specs.Tokens.{IsTokenText, Tokenized};
+ghost use Rattle.spf_lex.specs.declared.kind.Kind.{Kind};
+ghost use Rattle.spf_lex.specs.declared.text_kind.TextKind.{TextKind};
 ghost use Rattle.spf_kernel.specs.Notes.{kernel_notes};
 ghost use Rattle.spf_kernel.specs.Rules.{is_naming, tokens_that, text_of};
-ghost use Rattle.spf_kernel.specs.Token.{tokens_of};
 ghost use Rattle.spf_kernel.specs.declared.raw.RawKernel.{RawKernel};
-ghost use Rattle.spf_kernel.specs.declared.token.Token.{Token};
-ghost use Rattle.spf_kernel.specs.IsKernel.{IsKernel, AnswersKernel};
+ghost use Rattle.spf_kernel.specs.IsKernel.{IsKernel};
+ghost use Rattle.spf_kernel.specs.Stands.{IsSyntaxFault, StandsAt};
 
-use crate::cursor::{Cursor, ReadFault};
-use crate::declaration::kernel;
-use crate::raw::RawKernel;
-use std::alloc::Global;
-
-/// Reads the kernel in front of the tokens, and leaves the tokens behind it, or those from the fault on. Linear in the
-/// tokens of the kernel.
-pub fn read_kernel(alloc: Global, tokens: &mut Cursor) -> Result<RawKernel, ReadFault>
-    ensures { AnswersKernel tokens.old result tokens.new }
-{
-    kernel(alloc, tokens)
-}
-
-/// A law, which does nothing when it is called: tokens are a kernel with one tree.
+/// Law: tokens are a kernel with one tree.
 pub fn one_raw_tree()
-    ensures { (tokens : List Token) (a b : RawKernel) → IsKernel tokens a → IsKernel tokens b → a ≡ b }
+    ensures { (tokens : List (Lexed Kind)) (a b : RawKernel) → IsKernel tokens a → IsKernel tokens b → a ≡ b }
 {}
 
-/// A law, which does nothing when it is called: the names that a kernel declares are words.
+/// Law: the names that a kernel declares are words.
 pub fn names_are_words()
-    ensures { (texts : List (List ℕ)) (n m : ℕ) (front : List Token) (raw : RawKernel) → All IsTokenText texts →
-        drop n (tokens_of texts) ≡ front ++ drop m (tokens_of texts) → IsKernel front raw →
+    ensures { (texts : List (List ℕ)) (n m : ℕ) (front : List (Lexed Kind)) (raw : RawKernel) → All IsTokenText texts →
+        drop n (tokens_of bundle_words texts) ≡ front ++ drop m (tokens_of bundle_words texts) → IsKernel front raw →
         All (λ t. IsName (text_of texts t)) (tokens_that is_naming (kernel_notes raw)) }
+{}
+
+/// Law: from a token on at most one kernel stands, with one raw tree, and where one stands there is no fault of syntax.
+pub fn one_kernel_stands()
+    ensures one { (tokens : Tokenized) (from n m : ℕ) (a b : RawKernel) → StandsAt tokens from n a → StandsAt tokens from m b →
+        (n ≡ m) × (a ≡ b) }
+    ensures no_fault { (tokens : Tokenized) (from n : ℕ) (raw : RawKernel) (place : Place) (kind : TextKind) →
+        StandsAt tokens from n raw → ¬ IsSyntaxFault tokens from place kind }
 {}

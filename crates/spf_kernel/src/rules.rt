@@ -21,7 +21,7 @@ use spf_lex::Tokens;
 use std::alloc::Global;
 
 /// Where a kernel breaks the rules first: at the token of this number, this rule.
-#[derive(Clone, Copy, Debug, PartialEq, Eq)]
+#[derive(Clone, Copy)]
 pub struct Breach {
     pub place: u32,
     pub rule: u32,

@@ -1,169 +1,98 @@
 //! Readers of loops and what stands in them.
 
 ghost use Rattle.std.specs.Prelude.{◌≡◌};
-ghost use Rattle.spf_kernel.specs.Reader.{Reads, sees};
-ghost use Rattle.spf_kernel.specs.declared.kind.Kind.TheVariants as kind;
-ghost use Rattle.spf_kernel.specs.Reading as reading;
+ghost use Rattle.spf_lex.specs.Production.{begins};
+ghost use Rattle.spf_lex.specs.Reader.{Reads, Takes};
+ghost use Rattle.spf_kernel.specs.Productions as p;
 
-use crate::cursor::{Cursor, ReadFault};
 use crate::ix::{BRACKETS, in_brackets, ix};
-use crate::kind::Kind;
 use crate::raw::{RawAssign, RawCond, RawGuard, RawItem, RawLoop, RawPart, RawRange};
-use crate::repeated::{Part, repeated};
 use crate::tree::Compare;
-use crate::value::value;
+use crate::value::{PARENTHESES, value};
+use spf_lex::{Cursor, Kind, Part, ReadFault, Unexpected, enclosed, keyword, separated};
 use std::alloc::Global;
 
-/// How deep parentheses stand in a value.
-const PARENTHESES: u32 = 8;
-
 /// The sign of an assignment, and whether it is `+=`.
-#[tactic(auto, unfolding(crate::specs::Reading::adds))]
-fn adds(tokens: &mut Cursor) -> Result<bool, ReadFault>
-    ensures { Reads (reading.adds tokens.old) result tokens.new }
+#[tactic(auto, unfolding(crate::specs::Productions::becomes))]
+fn becomes(tokens: &mut Cursor<Kind>) -> Result<bool, Unexpected>
+    ensures { Takes (p.becomes.read tokens.old) result tokens.new }
 {
-    if tokens.eat(Kind::Equals) {
-        return Ok(false);
-    }
-    tokens.expect(Kind::PlusEquals)?;
-    Ok(true)
+    keyword(tokens, &[(Kind::Equals, false), (Kind::PlusEquals, true)])
 }
 
-#[tactic(auto, unfolding(crate::specs::Reading::assign))]
-fn assign(alloc: Global, tokens: &mut Cursor) -> Result<RawAssign, ReadFault>
-    ensures { Reads (reading.assign tokens.old) result tokens.new }
+impl Part<Kind> for RawAssign {
+    ghost begins = { begins p.assign };
+
+    ghost reading = { p.assign.read };
+
+    #[tactic(auto, unfolding(crate::specs::Productions::assign, spf_lex::specs::LookAhead::first, spf_lex::specs::LookAhead::nullable))]
+    fn begins(tokens: &Cursor<Kind>) -> bool {
+        tokens.sees_any(&[Kind::Name])
+    }
+
+    #[tactic(auto, unfolding(crate::specs::Productions::assign))]
+    fn read(alloc: Global, tokens: &mut Cursor<Kind>) -> Result<RawAssign, ReadFault> {
+        let array = tokens.expect(Kind::Name)?;
+        let at = in_brackets(alloc, tokens)?;
+        let adds = becomes(tokens)?;
+        let value = value(alloc, tokens, PARENTHESES)?;
+        tokens.expect(Kind::Semicolon)?;
+        Ok(RawAssign {
+            array,
+            at,
+            adds,
+            value,
+        })
+    }
+}
+
+#[tactic(auto, unfolding(crate::specs::Productions::compare))]
+fn compare(tokens: &mut Cursor<Kind>) -> Result<Compare, Unexpected>
+    ensures { Takes (p.compare.read tokens.old) result tokens.new }
 {
-    let array = tokens.expect(Kind::Name)?;
-    let at = in_brackets(alloc, tokens)?;
-    let adds = adds(tokens)?;
-    let value = value(alloc, tokens, PARENTHESES)?;
-    tokens.expect(Kind::Semicolon)?;
-    Ok(RawAssign {
-        array,
-        at,
-        adds,
-        value,
-    })
+    let signs = [
+        (Kind::Equal, Compare::Equal),
+        (Kind::Unequal, Compare::Unequal),
+        (Kind::Less, Compare::Less),
+        (Kind::AtMost, Compare::AtMost),
+        (Kind::Greater, Compare::Greater),
+        (Kind::AtLeast, Compare::AtLeast),
+    ];
+    keyword(tokens, &signs)
 }
 
-impl Part for RawAssign {
-    ghost begins = { sees kind.Name };
+impl Part<Kind> for RawCond {
+    ghost begins = { begins p.cond };
 
-    ghost reading = { reading.assign };
+    ghost reading = { p.cond.read };
 
-    fn begins(tokens: &Cursor) -> bool {
-        tokens.sees(Kind::Name)
+    #[tactic(auto, unfolding(crate::specs::Productions::cond, crate::specs::Productions::ix, crate::specs::Productions::sum, crate::specs::Productions::first_step, crate::specs::Productions::mono, crate::specs::Productions::numbered, crate::specs::Productions::number, crate::specs::Productions::atom, crate::specs::Productions::subscripted, spf_lex::specs::LookAhead::first, spf_lex::specs::LookAhead::nullable))]
+    fn begins(tokens: &Cursor<Kind>) -> bool {
+        tokens.sees_any(&[Kind::Minus, Kind::One, Kind::Number, Kind::Name])
     }
 
-    fn read(alloc: Global, tokens: &mut Cursor) -> Result<RawAssign, ReadFault> {
-        assign(alloc, tokens)
-    }
-}
-
-#[tactic(auto, unfolding(crate::specs::Reading::from_greater))]
-fn from_greater(tokens: &mut Cursor) -> Result<Compare, ReadFault>
-    ensures { Reads (reading.from_greater tokens.old) result tokens.new }
-{
-    if tokens.eat(Kind::Greater) {
-        return Ok(Compare::Greater);
-    }
-    tokens.expect(Kind::AtLeast)?;
-    Ok(Compare::AtLeast)
-}
-
-#[tactic(auto, unfolding(crate::specs::Reading::from_at_most))]
-fn from_at_most(tokens: &mut Cursor) -> Result<Compare, ReadFault>
-    ensures { Reads (reading.from_at_most tokens.old) result tokens.new }
-{
-    if tokens.eat(Kind::AtMost) {
-        return Ok(Compare::AtMost);
-    }
-    from_greater(tokens)
-}
-
-#[tactic(auto, unfolding(crate::specs::Reading::from_less))]
-fn from_less(tokens: &mut Cursor) -> Result<Compare, ReadFault>
-    ensures { Reads (reading.from_less tokens.old) result tokens.new }
-{
-    if tokens.eat(Kind::Less) {
-        return Ok(Compare::Less);
-    }
-    from_at_most(tokens)
-}
-
-#[tactic(auto, unfolding(crate::specs::Reading::from_unequal))]
-fn from_unequal(tokens: &mut Cursor) -> Result<Compare, ReadFault>
-    ensures { Reads (reading.from_unequal tokens.old) result tokens.new }
-{
-    if tokens.eat(Kind::Unequal) {
-        return Ok(Compare::Unequal);
-    }
-    from_less(tokens)
-}
-
-#[tactic(auto, unfolding(crate::specs::Reading::compare))]
-fn compare(tokens: &mut Cursor) -> Result<Compare, ReadFault>
-    ensures { Reads (reading.compare tokens.old) result tokens.new }
-{
-    if tokens.eat(Kind::Equal) {
-        return Ok(Compare::Equal);
-    }
-    from_unequal(tokens)
-}
-
-#[tactic(auto, unfolding(crate::specs::Reading::cond))]
-fn cond(alloc: Global, tokens: &mut Cursor) -> Result<RawCond, ReadFault>
-    ensures { Reads (reading.cond tokens.old) result tokens.new }
-{
-    let left = ix(alloc, tokens, BRACKETS)?;
-    let sign = compare(tokens)?;
-    let right = ix(alloc, tokens, BRACKETS)?;
-    Ok(RawCond { left, sign, right })
-}
-
-/// A further condition, behind its `and`.
-#[tactic(auto, unfolding(crate::specs::Reading::next_cond))]
-fn next_cond(alloc: Global, tokens: &mut Cursor) -> Result<RawCond, ReadFault>
-    ensures { Reads (reading.next_cond tokens.old) result tokens.new }
-{
-    tokens.expect(Kind::And)?;
-    cond(alloc, tokens)
-}
-
-impl Part for RawCond {
-    ghost begins = { sees kind.And };
-
-    ghost reading = { reading.next_cond };
-
-    fn begins(tokens: &Cursor) -> bool {
-        tokens.sees(Kind::And)
-    }
-
-    fn read(alloc: Global, tokens: &mut Cursor) -> Result<RawCond, ReadFault> {
-        next_cond(alloc, tokens)
+    #[tactic(auto, unfolding(crate::specs::Productions::cond))]
+    fn read(alloc: Global, tokens: &mut Cursor<Kind>) -> Result<RawCond, ReadFault> {
+        let left = ix(alloc, tokens, BRACKETS)?;
+        let sign = compare(tokens)?;
+        let right = ix(alloc, tokens, BRACKETS)?;
+        Ok(RawCond { left, sign, right })
     }
 }
 
-#[tactic(auto, unfolding(crate::specs::Reading::guard, crate::specs::Reading::assigns))]
-fn guard(alloc: Global, tokens: &mut Cursor) -> Result<RawGuard, ReadFault>
-    ensures { Reads (reading.guard tokens.old) result tokens.new }
+#[tactic(auto, unfolding(crate::specs::Productions::guard))]
+fn guard(alloc: Global, tokens: &mut Cursor<Kind>) -> Result<RawGuard, ReadFault>
+    ensures { Reads (p.guard.read tokens.old) result tokens.new }
 {
     tokens.expect(Kind::If)?;
-    let first = cond(alloc, tokens)?;
-    let others = repeated(alloc, tokens)?;
-    tokens.expect(Kind::OpenBrace)?;
-    let body = repeated(alloc, tokens)?;
-    tokens.expect(Kind::CloseBrace)?;
-    Ok(RawGuard {
-        first,
-        others,
-        body,
-    })
+    let conds = separated(alloc, tokens, Kind::And)?;
+    let body = enclosed(alloc, tokens, Kind::OpenBrace, Kind::CloseBrace)?;
+    Ok(RawGuard { conds, body })
 }
 
-#[tactic(auto, unfolding(crate::specs::Reading::range))]
-fn range(alloc: Global, tokens: &mut Cursor) -> Result<RawRange, ReadFault>
-    ensures { Reads (reading.range tokens.old) result tokens.new }
+#[tactic(auto, unfolding(crate::specs::Productions::range))]
+fn range(alloc: Global, tokens: &mut Cursor<Kind>) -> Result<RawRange, ReadFault>
+    ensures { Reads (p.range.read tokens.old) result tokens.new }
 {
     let var = tokens.expect(Kind::Name)?;
     tokens.expect(Kind::In)?;
@@ -173,108 +102,75 @@ fn range(alloc: Global, tokens: &mut Cursor) -> Result<RawRange, ReadFault>
     Ok(RawRange { var, low, high })
 }
 
-#[tactic(auto, unfolding(crate::specs::Reading::part))]
-fn part(alloc: Global, tokens: &mut Cursor) -> Result<RawPart, ReadFault>
-    ensures { Reads (reading.part tokens.old) result tokens.new }
-{
-    if tokens.sees(Kind::Name) {
-        Ok(RawPart::Assign(assign(alloc, tokens)?))
-    } else {
-        Ok(RawPart::Guard(guard(alloc, tokens)?))
+impl Part<Kind> for RawPart {
+    ghost begins = { begins p.part };
+
+    ghost reading = { p.part.read };
+
+    #[tactic(auto, unfolding(crate::specs::Productions::part, crate::specs::Productions::assign, crate::specs::Productions::guard, spf_lex::specs::LookAhead::first, spf_lex::specs::LookAhead::nullable))]
+    fn begins(tokens: &Cursor<Kind>) -> bool {
+        tokens.sees_any(&[Kind::Name, Kind::If])
+    }
+
+    #[tactic(auto, unfolding(crate::specs::Productions::part))]
+    fn read(alloc: Global, tokens: &mut Cursor<Kind>) -> Result<RawPart, ReadFault> {
+        if RawAssign::begins(tokens) {
+            Ok(RawPart::Assign(RawAssign::read(alloc, tokens)?))
+        } else {
+            Ok(RawPart::Guard(guard(alloc, tokens)?))
+        }
     }
 }
 
-#[tactic(auto, unfolding(crate::specs::Reading::begins_part))]
-fn begins_part(tokens: &Cursor) -> bool
-    ensures { result ≡ reading.begins_part tokens.now }
-{
-    tokens.sees(Kind::Name) || tokens.sees(Kind::If)
-}
-
-impl Part for RawPart {
-    ghost begins = { reading.begins_part };
-
-    ghost reading = { reading.part };
-
-    fn begins(tokens: &Cursor) -> bool {
-        begins_part(tokens)
-    }
-
-    fn read(alloc: Global, tokens: &mut Cursor) -> Result<RawPart, ReadFault> {
-        part(alloc, tokens)
-    }
-}
-
-#[tactic(auto, unfolding(crate::specs::Reading::inner))]
-fn inner(alloc: Global, tokens: &mut Cursor) -> Result<RawItem, ReadFault>
-    ensures { Reads (reading.inner tokens.old) result tokens.new }
+#[tactic(auto, unfolding(crate::specs::Productions::inner))]
+fn inner(alloc: Global, tokens: &mut Cursor<Kind>) -> Result<RawItem, ReadFault>
+    ensures { Reads (p.inner.read tokens.old) result tokens.new }
 {
     tokens.expect(Kind::For)?;
     let range = range(alloc, tokens)?;
-    tokens.expect(Kind::OpenBrace)?;
-    let parts = repeated(alloc, tokens)?;
-    tokens.expect(Kind::CloseBrace)?;
+    let parts = enclosed(alloc, tokens, Kind::OpenBrace, Kind::CloseBrace)?;
     Ok(RawItem::Inner(range, parts))
 }
 
-#[tactic(auto, unfolding(crate::specs::Reading::item))]
-fn item(alloc: Global, tokens: &mut Cursor) -> Result<RawItem, ReadFault>
-    ensures { Reads (reading.item tokens.old) result tokens.new }
-{
-    if begins_part(tokens) {
-        Ok(RawItem::Part(part(alloc, tokens)?))
-    } else {
-        inner(alloc, tokens)
+impl Part<Kind> for RawItem {
+    ghost begins = { begins p.item };
+
+    ghost reading = { p.item.read };
+
+    #[tactic(auto, unfolding(crate::specs::Productions::item, crate::specs::Productions::inner, crate::specs::Productions::part, crate::specs::Productions::assign, crate::specs::Productions::guard, spf_lex::specs::LookAhead::first, spf_lex::specs::LookAhead::nullable))]
+    fn begins(tokens: &Cursor<Kind>) -> bool {
+        tokens.sees_any(&[Kind::Name, Kind::If, Kind::For])
+    }
+
+    #[tactic(auto, unfolding(crate::specs::Productions::item))]
+    fn read(alloc: Global, tokens: &mut Cursor<Kind>) -> Result<RawItem, ReadFault> {
+        if RawPart::begins(tokens) {
+            Ok(RawItem::Part(RawPart::read(alloc, tokens)?))
+        } else {
+            inner(alloc, tokens)
+        }
     }
 }
 
-#[tactic(auto, unfolding(crate::specs::Reading::begins_item))]
-fn begins_item(tokens: &Cursor) -> bool
-    ensures { result ≡ reading.begins_item tokens.now }
-{
-    begins_part(tokens) || tokens.sees(Kind::For)
-}
+impl Part<Kind> for RawLoop {
+    ghost begins = { begins p.one_loop };
 
-impl Part for RawItem {
-    ghost begins = { reading.begins_item };
+    ghost reading = { p.one_loop.read };
 
-    ghost reading = { reading.item };
-
-    fn begins(tokens: &Cursor) -> bool {
-        begins_item(tokens)
+    #[tactic(auto, unfolding(crate::specs::Productions::one_loop, spf_lex::specs::LookAhead::first, spf_lex::specs::LookAhead::nullable))]
+    fn begins(tokens: &Cursor<Kind>) -> bool {
+        tokens.sees_any(&[Kind::Loop])
     }
 
-    fn read(alloc: Global, tokens: &mut Cursor) -> Result<RawItem, ReadFault> {
-        item(alloc, tokens)
-    }
-}
-
-/// A loop, with all that stands in it.
-#[tactic(auto, unfolding(crate::specs::Reading::one_loop))]
-fn one_loop(alloc: Global, tokens: &mut Cursor) -> Result<RawLoop, ReadFault>
-    ensures { Reads (reading.one_loop tokens.old) result tokens.new }
-{
-    tokens.expect(Kind::Loop)?;
-    let name = tokens.expect(Kind::Name)?;
-    tokens.expect(Kind::OpenParenthesis)?;
-    let range = range(alloc, tokens)?;
-    tokens.expect(Kind::CloseParenthesis)?;
-    tokens.expect(Kind::OpenBrace)?;
-    let items = repeated(alloc, tokens)?;
-    tokens.expect(Kind::CloseBrace)?;
-    Ok(RawLoop { name, range, items })
-}
-
-impl Part for RawLoop {
-    ghost begins = { sees kind.Loop };
-
-    ghost reading = { reading.one_loop };
-
-    fn begins(tokens: &Cursor) -> bool {
-        tokens.sees(Kind::Loop)
-    }
-
-    fn read(alloc: Global, tokens: &mut Cursor) -> Result<RawLoop, ReadFault> {
-        one_loop(alloc, tokens)
+    /// A loop, with all that stands in it.
+    #[tactic(auto, unfolding(crate::specs::Productions::one_loop))]
+    fn read(alloc: Global, tokens: &mut Cursor<Kind>) -> Result<RawLoop, ReadFault> {
+        tokens.expect(Kind::Loop)?;
+        let name = tokens.expect(Kind::Name)?;
+        tokens.expect(Kind::OpenParenthesis)?;
+        let range = range(alloc, tokens)?;
+        tokens.expect(Kind::CloseParenthesis)?;
+        let items = enclosed(alloc, tokens, Kind::OpenBrace, Kind::CloseBrace)?;
+        Ok(RawLoop { name, range, items })
     }
 }

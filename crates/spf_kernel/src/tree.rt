@@ -8,7 +8,7 @@ use spf_base::Name;
 use spf_term::Term;
 use sqlite_items::Items;
 
-#[derive(Debug, Drop)]
+#[derive(Drop)]
 pub struct Tree {
     pub decls: Items<Decl>,
     pub steps: Term,
@@ -16,7 +16,7 @@ pub struct Tree {
 }
 
 /// A declaration. All declarations stand in one list in the order of the text.
-#[derive(Debug, Drop)]
+#[derive(Drop)]
 pub enum Decl {
     Params {
         names: Items<Name>,
@@ -34,20 +34,20 @@ pub enum Decl {
 }
 
 /// How the values of an index array go on.
-#[derive(Clone, Copy, Debug, PartialEq, Eq)]
+#[derive(Clone, Copy)]
 pub enum Trend {
     Free,
     Monotone,
     Strict,
 }
 
-#[derive(Debug, Drop)]
+#[derive(Drop)]
 pub struct DataDecl {
     pub name: Name,
     pub size: Term,
 }
 
-#[derive(Debug, Drop)]
+#[derive(Drop)]
 pub struct Loop {
     pub name: Name,
     pub var: Name,
@@ -56,7 +56,7 @@ pub struct Loop {
     pub items: Items<Item>,
 }
 
-#[derive(Debug, Drop)]
+#[derive(Drop)]
 pub enum Item {
     Assign(Assign),
     Branch(Guard),
@@ -69,20 +69,20 @@ pub enum Item {
     },
 }
 
-#[derive(Debug, Drop)]
+#[derive(Drop)]
 pub enum Part {
     Assign(Assign),
     Branch(Guard),
 }
 
 /// An `if`: where all conditions hold, the assignments are made.
-#[derive(Debug, Drop)]
+#[derive(Drop)]
 pub struct Guard {
     pub conds: Items<Cond>,
     pub body: Items<Assign>,
 }
 
-#[derive(Debug, Drop)]
+#[derive(Drop)]
 pub struct Cond {
     pub left: Term,
     pub sign: Compare,
@@ -90,7 +90,7 @@ pub struct Cond {
 }
 
 /// How a condition compares its sides.
-#[derive(Clone, Copy, Debug, PartialEq, Eq)]
+#[derive(Clone, Copy)]
 pub enum Compare {
     Equal,
     Unequal,
@@ -101,7 +101,7 @@ pub enum Compare {
 }
 
 /// An assignment to the data array of this number.
-#[derive(Debug, Drop)]
+#[derive(Drop)]
 pub struct Assign {
     pub array: u32,
     pub sub: Term,
@@ -110,7 +110,7 @@ pub struct Assign {
 }
 
 /// What an assignment does: `=` puts the value there, `+=` adds it.
-#[derive(Clone, Copy, Debug, PartialEq, Eq)]
+#[derive(Clone, Copy)]
 pub enum Becomes {
     Put,
     Add,
@@ -118,21 +118,21 @@ pub enum Becomes {
 
 /// The sum of the products.
 #[cycle(value)]
-#[derive(Debug, Drop)]
+#[derive(Drop)]
 pub struct Value {
     pub prods: Items<Prod>,
 }
 
 /// A product, and whether `-` stands in front of it.
 #[cycle(value)]
-#[derive(Debug, Drop)]
+#[derive(Drop)]
 pub struct Prod {
     pub minus: bool,
     pub facts: Items<Factor>,
 }
 
 #[cycle(value)]
-#[derive(Debug, Drop)]
+#[derive(Drop)]
 pub enum Factor {
     Number(u64),
     /// A value in parentheses.

@@ -10,7 +10,7 @@ use sqlite_items::Items;
 use std::alloc::Global;
 
 /// The names of the parameters, the index arrays and the data arrays, each at its number.
-#[derive(Debug, Drop)]
+#[derive(Drop)]
 pub struct TreeNames {
     pub params: Items<Name>,
     pub tables: Items<Name>,

@@ -1,7 +1,7 @@
 -- Where no text of a clear grammar begins with another, the text in front of some kinds is told by the kinds.
-use Rattle.std.proofs.Common.{◌≡◌, ◌⊎◌, Bool, true, List, [], ◌∷◌, ◌++◌, Result, Ok, Err, refl, sym, ap, subst, ◌∙◌, append_assoc, append-nil, inl, inr}
-use Rattle.std.proofs.lemmas.List.{append_cancel_left, append_cancel_right}
-use Rattle.spf_lex.specs.Grammar.{Grammar, In, Begins, IsExact, IsReading, rest_of}
+use Rattle.std.proofs.Common.{◌≡◌, ◌⊎◌, Bool, true, List, [], ◌∷◌, ◌++◌, Ok, Err, refl, sym, ap, ◌∙◌, append_assoc, append-nil, inl, inr}
+use Rattle.std.proofs.lemmas.List.{append_cancel_right}
+use Rattle.spf_lex.specs.Grammar.{Grammar, In, IsExact, IsReading, rest_of}
 use Rattle.spf_lex.specs.LookAhead.{extension, is_clear}
 use Rattle.spf_lex.specs.Reading.{run}
 use Rattle.spf_lex.proofs.Follows.{Ends}

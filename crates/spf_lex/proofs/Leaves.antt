@@ -1,5 +1,5 @@
 -- What holds of each token of a text holds of each token of its derivation.
-use Rattle.std.proofs.Common.{◌≡◌, List, [], ◌∷◌, ◌++◌, subst, inl, inr}
+use Rattle.std.proofs.Common.{List, [], ◌∷◌, ◌++◌, inl, inr}
 use Rattle.std.specs.Prelude.{⊤}
 use Rattle.std.specs.List.{AllByRecursion}
 use Rattle.spf_lex.specs.Grammar.{Grammar, Nothing, One, Then, Or, Many}

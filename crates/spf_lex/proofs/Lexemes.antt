@@ -33,11 +33,11 @@ pub word_no_number : (bytes : List ℕ) → IsWord bytes → IsNumber bytes → 
 word_no_number bytes word number =
     BeginsWith-apart IsLetter IsDigit letter_no_digit bytes (word_begins bytes word) (number_begins bytes number)
 
-word_no_symbol : (bytes : List ℕ) → IsWord bytes → Contains symbols bytes → ⊥
+pub word_no_symbol : (bytes : List ℕ) → IsWord bytes → Contains symbols bytes → ⊥
 word_no_symbol bytes word symbol =
     BeginsWith-apart IsLetter BeginsSymbol letter_no_symbol bytes (word_begins bytes word) (symbol_begins bytes symbol)
 
-number_no_symbol : (bytes : List ℕ) → IsNumber bytes → Contains symbols bytes → ⊥
+pub number_no_symbol : (bytes : List ℕ) → IsNumber bytes → Contains symbols bytes → ⊥
 number_no_symbol bytes number symbol =
     BeginsWith-apart IsDigit BeginsSymbol digit_no_symbol bytes (number_begins bytes number) (symbol_begins bytes symbol)
 
@@ -76,12 +76,12 @@ pub word_bytes : (bytes : List ℕ) → IsWord bytes → All IsWordByte bytes
 word_bytes [] word = absurd word
 word_bytes (b ∷ bs) word = All-cons IsWordByte b bs (inl word.0) word.1
 
-word_of_run : (text : List ℕ) (n : ℕ) → BeginsWith IsLetter text → IsRun IsWordByte text n → IsWord (take n text)
+pub word_of_run : (text : List ℕ) (n : ℕ) → BeginsWith IsLetter text → IsRun IsWordByte text n → IsWord (take n text)
 word_of_run [] n letter run = absurd letter
 word_of_run (b ∷ bs) zero letter run = absurd (run.ends (inl letter))
 word_of_run (b ∷ bs) (suc n) letter run = (letter, All-tail IsWordByte b (take n bs) run.each)
 
-number_of_run : (text : List ℕ) (n : ℕ) → BeginsWith IsDigit text → IsRun IsDigit text n → IsNumber (take n text)
+pub number_of_run : (text : List ℕ) (n : ℕ) → BeginsWith IsDigit text → IsRun IsDigit text n → IsNumber (take n text)
 number_of_run text n digit run = record {
   some = omega (arith, run_nonempty IsDigit text n run digit, length-take-le n text run.within);
   digits = run.each;

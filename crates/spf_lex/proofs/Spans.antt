@@ -1,10 +1,13 @@
 -- The spans of a text's tokens.
-use Rattle.std.proofs.Common.{◌≡◌, ℕ, zero, suc, ◌+◌, ◌-◌, ◌<◌, ◌≤◌, List, [], ◌∷◌, ◌++◌, length, take, drop, map, get_or, All, Some, option_map, subst, sym, ap, arith, length-drop}
+use Rattle.std.proofs.Common.{◌≡◌, ℕ, zero, suc, ◌+◌, ◌-◌, ◌<◌, ◌≤◌, List, [], ◌∷◌, ◌++◌, length, take, drop, map, get_or, All, Some, option_map, refl, subst, sym, ap, ◌∙◌, arith, length-drop}
 use Rattle.std.specs.Prelude.{slice_get, slice_range}
-use Rattle.std.proofs.lemmas.List.{take_rest}
+use Rattle.std.proofs.lemmas.List.{take_rest, map-append}
 use Rattle.std.proofs.lemmas.List.Elements.{All-nil, All-cons, All-map}
 use Rattle.spf_lex.specs.declared.token_list.Span.{Span}
-use Rattle.spf_lex.specs.Lexeme.{IsToken}
+use Rattle.spf_lex.specs.Found.{IsFound}
+use Rattle.spf_lex.specs.Lexeme.{IsToken, lexeme_of}
+use Rattle.spf_lex.specs.declared.lexeme.Found.{Found}
+use Rattle.spf_lex.specs.declared.lexeme.Lexeme.{Lexeme}
 use Rattle.spf_lex.specs.Tokens.{IsGap, IsTokenText, Reads, done, gap, token, HasTokens, LacksToken}
 use Rattle.spf_lex.proofs.TokenReadings.{gap_step, token_step}
 
@@ -73,6 +76,11 @@ pub record ReadsUpTo (text : List ℕ) (at : ℕ) (spans : List Span) : Type 0 w
   pub inside : at ≤ length text
   pub reads : Reads text at 0 spans
 
+-- the scanner's lists: the spans of the tokens up to `at`, and what each of them is
+pub record IsScanned (text : List ℕ) (at : ℕ) (spans : List Span) (lexemes : List Lexeme) : Type 0 where
+  pub reads : ReadsUpTo text at spans
+  pub each : lexemes ≡ map lexeme_of (map (λ span. slice_range text span.start span.end) spans)
+
 abbrev rest : List ℕ → ℕ → List ℕ
 rest text at = take (length text - at) (drop at text)
 
@@ -92,6 +100,16 @@ module _ (text : List ℕ) (at : ℕ) (spans : List Span) (before : ReadsUpTo te
         inside = omega (arith, (token_step _ n here).within, length-drop at text, before.inside);
         reads = push_token n before.reads here;
       }
+
+  pub scanned_token : (lexemes more : List Lexeme) (spans_more : List Span) (found : Found) → lexemes ≡ map lexeme_of (map (λ span. slice_range text span.start span.end) spans) → IsFound (rest text at) found
+      → spans_more ≡ spans ++ record { start = at; end = at + found.len } ∷ [] → more ≡ lexemes ++ found.lexeme ∷ [] → IsScanned text (at + found.len) spans_more more
+  scanned_token lexemes more spans_more found each here spans_are more_are = record {
+    reads = rw spans_are (after_token found.len here.token);
+    each =
+        let len : at + found.len - at ≡ found.len = omega arith in
+        let is : found.lexeme ≡ lexeme_of (take found.len (drop at text)) = rw take_rest at here.lexeme in
+        more_are ∙ rw (spans_are, each, is, map-append, map-append, len) refl;
+  }
 
   pub lacks_token : at < length text → ((n : ℕ) → ¬ IsGap (rest text at) n) → ((n : ℕ) → ¬ IsToken (rest text at) n) → LacksToken text at
   lacks_token inside no_gap no_token = record {

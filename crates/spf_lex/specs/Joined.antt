@@ -1,5 +1,5 @@
 -- Words, one behind another, with a blank between two.
-use Rattle.std.specs.Prelude.{ℕ, ◌≡◌, Bool, true, All, not, ◌==◌, List, [], ◌∷◌, ◌++◌, flat_map, if◌then◌else◌}
+use Rattle.std.specs.Prelude.{ℕ, ◌≡◌, Bool, true, All, not, ◌==◌, List, [], ◌∷◌, ◌++◌, flat_map, codes, if◌then◌else◌}
 use Rattle.std.specs.List.{list_all}
 
 -- the words with one blank between two, and none in front or behind
@@ -21,3 +21,8 @@ pub record IsEnded (text : List ℕ) : Type 0 where
 unfoldable pub split : List ℕ → List ℕ → List (List ℕ)
 split begun [] = []
 split begun (b ∷ bs) = if b == 32 then begun ∷ split [] bs else split (begun ++ b ∷ []) bs
+
+-- the names with a comma between two
+abbrev pub listed : List (List ℕ) → List (List ℕ)
+listed [] = []
+listed (name ∷ names) = name ∷ flat_map (λ next. codes "," ∷ next ∷ []) names

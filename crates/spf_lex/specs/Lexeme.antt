@@ -1,9 +1,11 @@
 -- The lexemes, which are words, numbers and symbols, and the token at the front of a text.
 use Rattle.std.specs.Prelude.{ℕ, ◌≤◌, ◌<◌, ◌+◌, ◌-◌, ◌*◌, ◌^◌, ◌⊎◌, List, [], ◌∷◌, length, take, fold, map, codes, All, Contains, Bool, not, ◌&&◌, ◌==◌, nat_le, Option, Some, None, if◌then◌else◌}
-use Rattle.std.specs.Char.{is_ascii_digit}
+use Rattle.std.specs.Char.{is_ascii_alphabetic, is_ascii_digit}
 use Rattle.std.specs.List.{list_all}
 use Rattle.spf_base.specs.Word.{IsWord, IsDigit}
 use Rattle.spf_lex.specs.Front.{IsLongest}
+use Rattle.spf_lex.specs.declared.lexeme.Lexeme.{Lexeme}
+use Rattle.spf_lex.specs.declared.lexeme.Lexeme.TheVariants.{Word, Number, Symbol}
 
 -- digits, and at least one
 pub record IsNumber (bytes : List ℕ) : Type 0 where
@@ -40,3 +42,16 @@ pub record IsInLimits (bytes : List ℕ) : Type 0 where
 pub record IsToken (text : List ℕ) (n : ℕ) : Type 0 where
   pub lexeme : IsLongest IsLexeme text n
   pub limits : IsInLimits (take n text)
+
+-- what a token is that isn't a number: a word begins with a letter
+abbrev pub word_or_symbol : List ℕ → Lexeme
+word_or_symbol [] = Symbol
+word_or_symbol (b ∷ bs) = if is_ascii_alphabetic b then Word else Symbol
+
+abbrev pub lexeme_by : List ℕ → Option ℕ → Lexeme
+lexeme_by text None = word_or_symbol text
+lexeme_by text (Some n) = Number n
+
+-- what a token with these bytes is
+unfoldable pub lexeme_of : List ℕ → Lexeme
+lexeme_of text = lexeme_by text (number_of text)

@@ -15,10 +15,14 @@ many_of begins read zero kinds = Ok kinds
 many_of begins read (suc n) kinds = if begins kinds then and_then (read kinds) (many_of begins read n) else Ok kinds
 
 module _ {K : Type 0} (same : K → K → Bool) where
+  -- whether the next kind is one of these
+  abbrev pub is_next_of : List K → List K → Bool
+  is_next_of ks [] = false
+  is_next_of ks (k ∷ kinds) = list_any (same k) ks
+
   -- whether the next kind begins a text of the grammar
   abbrev pub starts : Grammar K → List K → Bool
-  starts g [] = false
-  starts g (k ∷ kinds) = list_any (same k) (first g)
+  starts g kinds = is_next_of (first g) kinds
 
   -- one token of this kind
   abbrev pub kind_of : K → List K → Result (List K) (List K)

@@ -4,7 +4,8 @@ use Rattle.spf_base.specs.declared.place.Place.{Place}
 use Rattle.spf_lex.specs.declared.token_list.Span.{Span}
 use Rattle.spf_lex.specs.Front.{BeginsWith, IsRun}
 use Rattle.spf_lex.specs.Place.{place_of}
-use Rattle.spf_lex.specs.Lexeme.{IsLexeme, IsInLimits, IsToken}
+use Rattle.spf_lex.specs.Lexeme.{IsLexeme, IsInLimits, IsToken, lexeme_of}
+use Rattle.spf_lex.specs.declared.lexeme.Lexeme.{Lexeme}
 
 -- a space, a tab, a carriage return or a line feed
 abbrev pub IsBlank : ℕ → Type 0
@@ -58,3 +59,8 @@ pub record IsTokenText (bytes : List ℕ) : Type 0 where
 pub record IsTokenized (text : List ℕ) (spans : List Span) : Type 0 where
   pub short : length text ≤ 67108864
   pub tokens : HasTokens text spans
+
+-- the spans of a text's tokens, and what each token is
+pub record AreTokens (text : List ℕ) (spans : List Span) (lexemes : List Lexeme) : Type 0 where
+  pub tokenized : IsTokenized text spans
+  pub each : lexemes ≡ map lexeme_of (texts (record { text = text; spans = spans }))

@@ -4,24 +4,15 @@
 //! kinds are its texts. `run` is a reader that looks at the next token alone, and `is_clear` is a test that says that
 //! this is enough. It computes: a crate shows it of its own grammar by `refl`.
 
-ghost use Rattle.std.specs.Prelude.{◌≡◌, ◌↔◌, Bool, true, List, [], ◌++◌, Ok, Err};
-ghost use Rattle.spf_lex.specs.Grammar.{Grammar, In, IsReading, IsExact};
+ghost use Rattle.std.specs.Prelude.{◌≡◌, ◌↔◌, true, List, [], ◌++◌, Ok, Err};
+ghost use Rattle.spf_lex.specs.Grammar.{Grammar, In, IsReading};
 ghost use Rattle.spf_lex.specs.LookAhead.{extension, is_clear};
 ghost use Rattle.spf_lex.specs.Reading.{run};
 ghost use Rattle.spf_lex.specs.Derivation.{Derivation, Spells, derive, IsDerivation};
 
-/// What a grammar tells apart of a token. Two kinds are the same only if they are one value.
-pub trait TokenKind: Copy {
-    ghost same: { Self → Self → Bool };
+use crate::language::TokenKind;
 
-    /// Whether the token is of the other kind.
-    fn is(self, other: Self) -> bool
-        ensures { result ≡ same self other };
-
-    ghost exact: { IsExact same };
-}
-
-/// A law, which does nothing when it is called: a clear grammar is read exactly.
+/// Law: a clear grammar is read exactly.
 ///
 /// The reader takes as many kinds as some text of the grammar begins with, and answers `Ok` only where they are a text.
 pub fn reading_is_exact<K: TokenKind>()
@@ -33,7 +24,7 @@ pub fn reading_is_exact<K: TokenKind>()
         (In grammar kinds ↔ (run K.same grammar kinds ≡ Ok [])) }
 {}
 
-/// A law, which does nothing when it is called: a text of a clear grammar has one derivation, and it is read exactly.
+/// Law: a text of a clear grammar has one derivation, and it is read exactly.
 pub fn derivation_is_exact<K: TokenKind, T>()
     // reading stops where `run` does, and the tokens that it took are the text with the derivation that it gives
     ensures derivation { (kind : T → K) (grammar : Grammar K) (tokens : List T) → is_clear K.same grammar ≡ true →
@@ -43,7 +34,7 @@ pub fn derivation_is_exact<K: TokenKind, T>()
         is_clear K.same grammar ≡ true → Spells kind grammar tokens a → Spells kind grammar tokens b → a ≡ b }
 {}
 
-/// A law, which does nothing when it is called: where no text of a clear grammar begins with another one, as where a
+/// Law: where no text of a clear grammar begins with another one, as where a
 /// closing brace ends each, the text in front of some tokens is one, and no reading stops there at a fault.
 pub fn front_is_exact<K: TokenKind>()
     ensures one { (grammar : Grammar K) (a b rest left : List K) → is_clear K.same grammar ≡ true → extension grammar ≡ [] →

@@ -3,7 +3,23 @@
 ghost use Rattle.std.specs.Prelude.{◌≡◌, ◌≤◌, ◌+◌, ◌^◌, ◌↔◌, [], ◌∷◌, length, min, take, All, Contains, IsTrue, SomeIff};
 ghost use Rattle.spf_base.specs.Word.{IsDigit, IsLetter, IsWordByte};
 ghost use Rattle.spf_lex.specs.Front.{BeginsWith, IsLengthOf, IsRun};
+ghost use Rattle.spf_lex.specs.Found.{IsTokenAt};
 ghost use Rattle.spf_lex.specs.Lexeme.{IsNumber, IsToken, symbols, value_of};
+
+/// What a token is: a word, a number with its value, or a symbol.
+#[derive(Clone, Copy)]
+pub enum Lexeme {
+    Word,
+    Number(u64),
+    Symbol,
+}
+
+/// A token at the front of a text: how many bytes it has, and what it is.
+#[derive(Clone, Copy)]
+pub struct Found {
+    pub len: usize,
+    pub lexeme: Lexeme,
+}
 
 /// How many bytes a word has at most, to be a token.
 const LONGEST_WORD: usize = 32;
@@ -92,22 +108,29 @@ pub fn number(text: &[u8]) -> Option<u64>
     (value <= LARGEST_NUMBER).then_some(value)
 }
 
-/// The length of the token at the front of the text, which begins with a letter.
-fn word_len(text: &[u8]) -> Option<usize>
+/// The token at the front of the text, which begins with a letter.
+fn word_token(text: &[u8]) -> Option<Found>
     requires { BeginsWith IsLetter text.now }
-    ensures { IsLengthOf (IsToken text.now) result }
+    ensures { IsTokenAt text.now result }
 {
     let len = word_run(text);
-    (len <= LONGEST_WORD).then_some(len)
+    (len <= LONGEST_WORD).then_some(Found {
+        len,
+        lexeme: Lexeme::Word,
+    })
 }
 
-/// The length of the token at the front of the text, which begins with a digit.
-fn number_len(text: &[u8]) -> Option<usize>
+/// The token at the front of the text, which begins with a digit.
+fn number_token(text: &[u8]) -> Option<Found>
     requires { BeginsWith IsDigit text.now }
-    ensures { IsLengthOf (IsToken text.now) result }
+    ensures { IsTokenAt text.now result }
 {
     let len = digit_run(text);
-    number(&text[..len]).is_some().then_some(len)
+    let value = number(&text[..len])?;
+    Some(Found {
+        len,
+        lexeme: Lexeme::Number(value),
+    })
 }
 
 /// Whether the text begins with a symbol of two bytes.
@@ -130,7 +153,7 @@ fn begins_mark(text: &[u8]) -> bool
     }
 }
 
-/// The length of the token at the front of the text, which begins with neither.
+/// The length of the symbol at the front of the text, which begins with neither a letter nor a digit.
 fn symbol_len(text: &[u8]) -> Option<usize>
     requires word { ¬ BeginsWith IsLetter text.now }
     requires number { ¬ BeginsWith IsDigit text.now }
@@ -145,13 +168,26 @@ fn symbol_len(text: &[u8]) -> Option<usize>
     }
 }
 
-/// The length of the token at the front of the text, if one stands there. Linear in the longest lexeme there.
-pub(crate) fn token_len(text: &[u8]) -> Option<usize>
-    ensures { IsLengthOf (IsToken text.now) result }
+/// The token at the front of the text, which begins with neither a letter nor a digit.
+fn symbol_token(text: &[u8]) -> Option<Found>
+    requires word { ¬ BeginsWith IsLetter text.now }
+    requires number { ¬ BeginsWith IsDigit text.now }
+    ensures { IsTokenAt text.now result }
+{
+    let len = symbol_len(text)?;
+    Some(Found {
+        len,
+        lexeme: Lexeme::Symbol,
+    })
+}
+
+/// The token at the front of the text, if one stands there. Linear in the longest lexeme there.
+pub(crate) fn token_at(text: &[u8]) -> Option<Found>
+    ensures { IsTokenAt text.now result }
 {
     match text {
-        [first, ..] if is_letter(*first) => word_len(text),
-        [first, ..] if is_digit(*first) => number_len(text),
-        _ => symbol_len(text),
+        [first, ..] if is_letter(*first) => word_token(text),
+        [first, ..] if is_digit(*first) => number_token(text),
+        _ => symbol_token(text),
     }
 }

@@ -1,7 +1,8 @@
 //! The tokens of a text, and where they stand.
 
-ghost use Rattle.std.specs.Prelude.{◌≡◌, ◌<◌, ◌≤◌, length, slice_get, slice_range, Some, All};
+ghost use Rattle.std.specs.Prelude.{◌≡◌, ◌<◌, ◌≤◌, length, map, slice_get, slice_range, Some, All};
 
+use crate::lexeme::Lexeme;
 use crate::place::place_at;
 use spf_base::Place;
 use std::marker::Model;
@@ -18,28 +19,34 @@ pub struct Span {
 pub struct Tokens<'a> {
     text: &'a [u8],
     spans: Vec<Span>,
+    lexemes: Vec<Lexeme>,
 }
 
 impl<'a> Model for Tokens<'a> {
-    ghost use Rattle.spf_lex.specs.Tokens.{Tokenized, IsTokenized};
+    ghost use Rattle.spf_lex.specs.Tokens.{Tokenized, AreTokens};
 
     ghost Value = { Tokenized };
 
     ghost view = { λ tokens. record { text = tokens.text.now; spans = tokens.spans.items } };
 
-    ghost invariant = { λ tokens. IsTokenized tokens.text.now tokens.spans.items };
+    ghost invariant = { λ tokens. AreTokens tokens.text.now tokens.spans.items tokens.lexemes.items };
 }
 
 impl<'a> Tokens<'a> {
     ghost use Rattle.spf_lex.specs.Place.{place_of};
-    ghost use Rattle.spf_lex.specs.Tokens.{HasTokens, IsTokenText, IsTokenized, places, texts};
+    ghost use Rattle.spf_lex.specs.Lexeme.{lexeme_of};
+    ghost use Rattle.spf_lex.specs.Tokens.{AreTokens, HasTokens, IsTokenText, IsTokenized, places, texts};
 
-    /// The tokens at these spans of the text.
-    pub(crate) fn new(text: &'a [u8], spans: Vec<Span>) -> Tokens<'a>
-        requires { IsTokenized text.now spans.items }
+    /// The tokens at these spans of the text, and what each is.
+    pub(crate) fn new(text: &'a [u8], spans: Vec<Span>, lexemes: Vec<Lexeme>) -> Tokens<'a>
+        requires { AreTokens text.now spans.items lexemes.items }
         ensures { result ≡ record { text = text.now; spans = spans.items } }
     {
-        Tokens { text, spans }
+        Tokens {
+            text,
+            spans,
+            lexemes,
+        }
     }
 
     /// How many tokens there are.
@@ -72,6 +79,14 @@ impl<'a> Tokens<'a> {
     {
         let span = self.span(n);
         &self.text[span.start as usize..span.end as usize]
+    }
+
+    /// What token `n` is.
+    pub fn lexeme(&self, n: u32) -> Lexeme
+        requires { n < length (texts self.now) }
+        ensures { slice_get (map lexeme_of (texts self.now)) n ≡ Some result }
+    {
+        self.lexemes[n as usize]
     }
 
     /// The place of token `n`. Linear in the text before it.

@@ -1,7 +1,7 @@
 //! Words that are written one behind another.
 
 ghost use Rattle.std.specs.Prelude.{◌≡◌, ◌≤◌, ◌^◌, [], ◌∷◌, ◌++◌, decimal, IsTrue, OnOk, OnErr};
-ghost use Rattle.spf_lex.specs.Joined.{has_no_blank, joined};
+ghost use Rattle.spf_lex.specs.Joined.{has_no_blank, joined, listed};
 
 use itoa::Buffer;
 use spf_base::{Name, NoMemory};
@@ -53,6 +53,20 @@ impl Words {
         ensures unchanged { OnErr result (self.new ≡ self.old) }
     {
         self.push(name.bytes())
+    }
+
+    /// Writes names behind the others, with a comma between two.
+    pub fn push_names(&mut self, names: &[Name]) -> Result<(), NoMemory>
+        ensures { OnOk result (self.new ≡ self.old ++ listed names.now) }
+    {
+        if let [first, others @ ..] = names {
+            self.push_name(first)?;
+            for name in others {
+                self.push(b",")?;
+                self.push_name(name)?;
+            }
+        }
+        Ok(())
     }
 
     /// Writes a number behind the others.

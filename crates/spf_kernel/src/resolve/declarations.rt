@@ -1,6 +1,6 @@
 //! Declarations, and the names that they give.
 
-ghost use Rattle.std.specs.Prelude.{◌≡◌, ◌∷◌, ◌++◌, IfOk, map, flat_map, All};
+ghost use Rattle.std.specs.Prelude.{◌≡◌, IfOk, map, flat_map};
 ghost use Rattle.spf_base.specs.Word.{IsName};
 ghost use Rattle.spf_lex.specs.Tokens.{texts};
 ghost use Rattle.spf_kernel.specs.Rules.{text_of};
@@ -11,10 +11,9 @@ use crate::names::{Names, text_of};
 use crate::note::Scope;
 use crate::raw::{RawDecl, RawIx, RawSized};
 use crate::resolve::terms::resolve_ix;
-use crate::token::Token;
 use crate::tree::{DataDecl, Decl, Trend};
 use spf_base::{Name, NoMemory};
-use spf_lex::Tokens;
+use spf_lex::{Token, Tokens};
 use sqlite_items::Items;
 use std::alloc::Global;
 
@@ -26,18 +25,12 @@ pub(super) fn resolve_name(alloc: Global, tokens: &Tokens, token: Token) -> Resu
     Name::copy(alloc, text_of(tokens, token))
 }
 
-fn resolve_params(
-    alloc: Global,
-    tokens: &Tokens,
-    first: Token,
-    others: &[Token],
-) -> Result<Items<Name>, NoMemory>
-    requires { AreNames (texts tokens.now) (map param_note (first ∷ others.now)) }
-    ensures { IfOk result (λ all. all ≡ map (text_of (texts tokens.now)) (first ∷ others.now)) }
+fn resolve_params(alloc: Global, tokens: &Tokens, params: &[Token]) -> Result<Items<Name>, NoMemory>
+    requires { AreNames (texts tokens.now) (map param_note params.now) }
+    ensures { IfOk result (λ all. all ≡ map (text_of (texts tokens.now)) params.now) }
 {
     let mut all = Items::new(alloc);
-    all.push(resolve_name(alloc, tokens, first)?)?;
-    for token in others {
+    for token in params {
         all.push(resolve_name(alloc, tokens, *token)?)?;
     }
     Ok(all)
@@ -62,15 +55,13 @@ fn resolve_arrays(
     alloc: Global,
     tokens: &Tokens,
     names: &Names,
-    first: &RawSized,
-    others: &[RawSized],
+    arrays: &[RawSized],
 ) -> Result<Items<DataDecl>, NoMemory>
-    requires { AreNames (texts tokens.now) (flat_map cells_notes (first.now ∷ others.now)) }
-    ensures { IfOk result (λ all. all ≡ map (data_decl_of (texts tokens.now) names.now) (first.now ∷ others.now)) }
+    requires { AreNames (texts tokens.now) (flat_map cells_notes arrays.now) }
+    ensures { IfOk result (λ all. all ≡ map (data_decl_of (texts tokens.now) names.now) arrays.now) }
 {
     let mut all = Items::new(alloc);
-    all.push(resolve_array(alloc, tokens, names, first)?)?;
-    for array in others {
+    for array in arrays {
         all.push(resolve_array(alloc, tokens, names, array)?)?;
     }
     Ok(all)
@@ -109,8 +100,8 @@ pub(super) fn resolve_decl(
     ensures { IfOk result (λ found. found ≡ decl_of (texts tokens.now) names.now decl.now) }
 {
     match decl {
-        RawDecl::Params(first, others) => {
-            let names = resolve_params(alloc, tokens, *first, others.as_slice())?;
+        RawDecl::Params(params) => {
+            let names = resolve_params(alloc, tokens, params.as_slice())?;
             Ok(Decl::Params { names })
         }
         RawDecl::Index {
@@ -119,8 +110,8 @@ pub(super) fn resolve_decl(
             high,
             trend,
         } => resolve_table(alloc, tokens, names, array, low, high, *trend),
-        RawDecl::Values(first, others) => {
-            let arrays = resolve_arrays(alloc, tokens, names, first, others.as_slice())?;
+        RawDecl::Values(arrays) => {
+            let arrays = resolve_arrays(alloc, tokens, names, arrays.as_slice())?;
             Ok(Decl::Values { arrays })
         }
     }

@@ -11,10 +11,9 @@ use crate::raw::{RawItem, RawLoop, RawPart};
 use crate::resolve::declarations::resolve_name;
 use crate::resolve::statements::{resolve_assign, resolve_guard, resolve_parts};
 use crate::resolve::terms::resolve_ix;
-use crate::token::Token;
 use crate::tree::{Item, Loop};
 use spf_base::NoMemory;
-use spf_lex::Tokens;
+use spf_lex::{Token, Tokens};
 use sqlite_items::Items;
 use std::alloc::Global;
 

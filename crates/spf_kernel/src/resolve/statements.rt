@@ -1,6 +1,6 @@
 //! Assignments, conditions and guards.
 
-ghost use Rattle.std.specs.Prelude.{◌≡◌, ◌∷◌, IfOk, map};
+ghost use Rattle.std.specs.Prelude.{◌≡◌, IfOk, map};
 ghost use Rattle.spf_lex.specs.Tokens.{texts};
 ghost use Rattle.spf_kernel.specs.Resolved.{becomes, assign_of, cond_of, guard_of, part_of};
 
@@ -76,14 +76,12 @@ fn resolve_conds(
     tokens: &Tokens,
     names: &Names,
     scope: Scope,
-    first: &RawCond,
-    others: &[RawCond],
+    conds: &[RawCond],
 ) -> Result<Items<Cond>, NoMemory>
-    ensures { IfOk result (λ all. all ≡ map (cond_of (texts tokens.now) names.now scope) (first.now ∷ others.now)) }
+    ensures { IfOk result (λ all. all ≡ map (cond_of (texts tokens.now) names.now scope) conds.now) }
 {
     let mut all = Items::new(alloc);
-    all.push(resolve_cond(alloc, tokens, names, scope, first)?)?;
-    for cond in others {
+    for cond in conds {
         all.push(resolve_cond(alloc, tokens, names, scope, cond)?)?;
     }
     Ok(all)
@@ -99,9 +97,8 @@ pub(super) fn resolve_guard(
 ) -> Result<Guard, NoMemory>
     ensures { IfOk result (λ found. found ≡ guard_of (texts tokens.now) names.now scope guard.now) }
 {
-    let others = guard.others.as_slice();
     Ok(Guard {
-        conds: resolve_conds(alloc, tokens, names, scope, &guard.first, others)?,
+        conds: resolve_conds(alloc, tokens, names, scope, guard.conds.as_slice())?,
         body: resolve_assigns(alloc, tokens, names, scope, guard.body.as_slice())?,
     })
 }

@@ -9,9 +9,8 @@ use crate::names::{Names, text_of};
 use crate::note::Scope;
 use crate::raw::{RawAtom, RawIx, RawMono};
 use crate::resolve::variables::variable;
-use crate::token::Token;
 use spf_base::{NoMemory, wadd, wsub};
-use spf_lex::Tokens;
+use spf_lex::{Token, Tokens};
 use spf_term::{Atom, Mono, Term};
 use sqlite_items::Items;
 use std::alloc::Global;
@@ -42,9 +41,9 @@ fn alone(minus: bool, mono: &RawMono) -> i64
 fn constant(ix: &RawIx) -> i64
     ensures { result ≡ wrap (constant_of ix.now) }
 {
-    let mut constant = alone(ix.lead.is_some(), &ix.first);
-    for step in ix.others.as_slice() {
-        constant = wadd(constant, alone(step.minus, &step.mono));
+    let mut constant = 0;
+    for step in ix.steps.as_slice() {
+        constant = wadd(constant, alone(step.minus.is_some(), &step.mono));
     }
     constant
 }
@@ -120,19 +119,9 @@ pub(super) fn resolve_ix(
     ensures { IfOk result (λ term. term ≡ term_of (texts tokens.now) names.now scope ix.now) }
 {
     let mut monos = Items::new(alloc);
-    add_mono(
-        alloc,
-        tokens,
-        names,
-        scope,
-        ix.lead.is_some(),
-        &ix.first,
-        &mut monos,
-    )?;
-    for step in ix.others.as_slice() {
-        add_mono(
-            alloc, tokens, names, scope, step.minus, &step.mono, &mut monos,
-        )?;
+    for step in ix.steps.as_slice() {
+        let minus = step.minus.is_some();
+        add_mono(alloc, tokens, names, scope, minus, &step.mono, &mut monos)?;
     }
     Ok(Term {
         monos,

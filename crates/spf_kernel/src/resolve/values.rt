@@ -1,18 +1,17 @@
 //! Values.
 
-ghost use Rattle.std.specs.Prelude.{◌≡◌, IfOk};
+ghost use Rattle.std.specs.Prelude.{◌≡◌, IfOk, map};
 ghost use Rattle.spf_lex.specs.Tokens.{texts};
-ghost use Rattle.spf_kernel.specs.Resolved.{variable_of, bare_factor, name_factor, factor_of, prod_of, value_of};
+ghost use Rattle.spf_kernel.specs.Resolved.{variable_of, bare_factor, name_factor, factor_of, product, value_of};
 
 use crate::names::{Names, text_of};
 use crate::note::Scope;
-use crate::raw::{RawAtom, RawFactor, RawProd, RawValue};
+use crate::raw::{RawAtom, RawFactor, RawSummand, RawValue};
 use crate::resolve::terms::resolve_ix;
 use crate::resolve::variables::variable;
-use crate::token::Token;
 use crate::tree::{Factor, Prod, Value};
 use spf_base::NoMemory;
-use spf_lex::Tokens;
+use spf_lex::{Token, Tokens};
 use sqlite_items::Items;
 use std::alloc::Global;
 
@@ -75,19 +74,18 @@ fn resolve_factor(
 }
 
 #[cycle(resolve_value)]
-fn resolve_prod(
+fn resolve_summand(
     alloc: Global,
     tokens: &Tokens,
     names: &Names,
     scope: Scope,
-    minus: bool,
-    prod: &RawProd,
+    summand: &RawSummand,
 ) -> Result<Prod, NoMemory>
-    ensures { IfOk result (λ found. found ≡ prod_of (texts tokens.now) names.now scope minus prod.now) }
+    ensures { IfOk result (λ found. found ≡ product summand.now.minus (map (factor_of (texts tokens.now) names.now scope) summand.now.facts)) }
 {
+    let minus = summand.minus;
     let mut facts = Items::new(alloc);
-    facts.push(resolve_factor(alloc, tokens, names, scope, &prod.first)?)?;
-    for factor in prod.others.as_slice() {
+    for factor in summand.facts.as_slice() {
         facts.push(resolve_factor(alloc, tokens, names, scope, factor)?)?;
     }
     Ok(Prod { minus, facts })
@@ -105,9 +103,8 @@ pub(super) fn resolve_value(
     ensures { IfOk result (λ found. found ≡ value_of (texts tokens.now) names.now scope value.now) }
 {
     let mut prods = Items::new(alloc);
-    prods.push(resolve_prod(alloc, tokens, names, scope, value.minus, &value.first)?)?;
-    for summand in value.others.as_slice() {
-        prods.push(resolve_prod(alloc, tokens, names, scope, summand.minus, &summand.prod)?)?;
+    for summand in value.summands.as_slice() {
+        prods.push(resolve_summand(alloc, tokens, names, scope, summand)?)?;
     }
     Ok(Value { prods })
 }

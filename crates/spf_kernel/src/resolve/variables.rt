@@ -7,8 +7,7 @@ ghost use Rattle.spf_kernel.specs.Resolved.{variable_of};
 
 use crate::names::text_of;
 use crate::note::Scope;
-use crate::token::Token;
-use spf_lex::Tokens;
+use spf_lex::{Token, Tokens};
 
 /// Whether the variable has this name.
 fn is_variable(tokens: &Tokens, variable: Option<Token>, name: Token) -> bool

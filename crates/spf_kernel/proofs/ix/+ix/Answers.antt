@@ -1,18 +1,20 @@
-use Rattle.std.proofs.Common.{rules, arith, sym}
-use Rattle.std.proofs.lemmas.Grind.{common_steps}
-use Rattle.spf_kernel.specs.Reading.{atom, step, begins_step}
-use Rattle.spf_kernel.proofs.Turns.{atom_deep, at_first, goes_on}
+use Rattle.std.proofs.Common.{arith, sym}
+use Rattle.spf_lex.specs.Production.{begins}
+use Rattle.spf_lex.proofs.Repeating.{from_parts, goes_on}
+use Rattle.spf_kernel.specs.Productions.{atom, next_step}
+use Rattle.spf_kernel.proofs.Depths.{atom_deep}
 use Rattle.spf_kernel.proofs.ix.+ix.Goals as goal
 
-pub atom-returns : goal.atom-returns
-atom-returns t c = rw (atom_deep c.args.depth c.args.tokens.now c.expect.new.self c.in_ok-name.name (omega (arith, c.if-depth-eq0.false)) c.in_ok-name.ensures) c.at_name.ensures
+pub atom-returns-then-depth-gt0 : goal.atom-returns-then-depth-gt0
+atom-returns-then-depth-gt0 t c = rw (atom_deep c.args.depth c.args.tokens.now (omega (arith, c.if-depth-gt0.true))) c.subscripted.ensures
 
-pub steps-loop-turn-init : goal.steps-loop-turn-init
-steps-loop-turn-init t c =
-    let e = at_first begins_step (step (atom c.args.depth)) c.args.tokens.now in
-    first_of (search rules, grind (arith, common_steps))
+pub next_steps-loop-turn-init : goal.next_steps-loop-turn-init
+next_steps-loop-turn-init t c =
+    let next = next_step (atom c.args.depth) in
+    rw c.left-turn-end.ensures (from_parts (begins next) next.read c.args.steps c.args.tokens.now)
 
-pub steps-loop-turn-preserved : goal.steps-loop-turn-preserved
-steps-loop-turn-preserved t c =
+pub next_steps-loop-turn-preserved : goal.next_steps-loop-turn-preserved
+next_steps-loop-turn-preserved t c =
+    let next = next_step (atom c.args.depth) in
     rw c.in_ok-push.ensures.ok
-    (goes_on begins_step (step (atom c.args.depth)) _ c.loop-turn.steps _ c.loop-turn._turn c.loop-turn.tokens c.loop-turn.invariant c.loop-turn-test.true (sym c.if-not-begins_step.ensures) _ c.step.new.tokens c.in_ok-step.ensures)
+    (goes_on (begins next) next.read _ c.loop-turn.steps _ c.loop-turn._turn c.loop-turn.tokens c.loop-turn.invariant c.loop-turn-test.true (sym (c.if-not-begins_sign.ensures.monomial c.args.depth)) _ c.next_step.new.tokens c.in_ok-step.ensures)

@@ -1,30 +1,43 @@
 use Rattle.std.proofs.Common.{◌≡◌, ◌+◌, ◌*◌, ◌-◌, ◌++◌}
-use Rattle.spf_lex.specs.Derivation.{made, read_many}
-use Rattle.spf_kernel.specs.Reader.{many}
-use Rattle.spf_kernel.specs.Reading.{begins_step, step, atom}
+use Rattle.spf_lex.specs.Derivation.{made}
+use Rattle.spf_lex.specs.Production.{begins}
+use Rattle.spf_lex.specs.Reader.{repeat}
+use Rattle.spf_lex.proofs.Repeating.{Rest}
+use Rattle.spf_kernel.specs.Productions.{atom, next_step}
 use Rattle.spf_kernel.proofs.ix.+ix.Given as goal
 
 abbrev pub decreases-atom : goal.decreases-atom
-decreases-atom l = 7 * l.depth + 1
+decreases-atom l = 9 * l.depth
 
-abbrev pub decreases-at_name : goal.decreases-at_name
-decreases-at_name l = 7 * l.depth
+abbrev pub decreases-times : goal.decreases-times
+decreases-times l = 9 * l.depth + 1
 
-abbrev pub decreases-factor : goal.decreases-factor
-decreases-factor l = 7 * l.depth + 2
+abbrev pub decreases-numbered : goal.decreases-numbered
+decreases-numbered l = 9 * l.depth + 2
 
 abbrev pub decreases-mono : goal.decreases-mono
-decreases-mono l = 7 * l.depth + 3
+decreases-mono l = 9 * l.depth + 3
 
-abbrev pub decreases-step : goal.decreases-step
-decreases-step l = 7 * l.depth + 4
+abbrev pub decreases-first_step : goal.decreases-first_step
+decreases-first_step l = 9 * l.depth + 4
 
-abbrev pub decreases-steps : goal.decreases-steps
-decreases-steps l = 7 * l.depth + 5
+abbrev pub decreases-next_step : goal.decreases-next_step
+decreases-next_step l = 9 * l.depth + 4
+
+abbrev pub decreases-next_steps : goal.decreases-next_steps
+decreases-next_steps l = 9 * l.depth + 5
 
 abbrev pub decreases-ix : goal.decreases-ix
-decreases-ix l = 7 * l.depth + 5 + 1
+decreases-ix l = 9 * l.depth + 6
+
+abbrev pub decreases-bracketed : goal.decreases-bracketed
+decreases-bracketed l = 9 * l.depth + 7
+
+abbrev pub decreases-subscripted : goal.decreases-subscripted
+decreases-subscripted l = 9 * l.depth + 8
 
 -- what was read, and what is still read, are the whole
-abbrev pub invariant-steps-loop-turn : goal.invariant-steps-loop-turn
-invariant-steps-loop-turn l = many begins_step (step (atom l.depth)) l.fn.tokens ≡ made (λ others. l.steps ++ others) (read_many begins_step (step (atom l.depth)) (l._turn-end - l._turn) l.tokens)
+abbrev pub invariant-next_steps-loop-turn : goal.invariant-next_steps-loop-turn
+invariant-next_steps-loop-turn l =
+    let next = next_step (atom l.depth) in
+    made (λ others. l.fn.steps ++ others) (repeat (begins next) next.read l.fn.tokens) ≡ Rest (begins next) next.read l.steps (l._turn-end - l._turn) l.tokens

@@ -2,7 +2,7 @@ use Rattle.std.proofs.Common.{List, Ok, Err, subst, ◌∙◌}
 use Rattle.spf_lex.specs.Tokens.{texts}
 use Rattle.spf_kernel.specs.declared.note.Note.{Note}
 use Rattle.spf_kernel.specs.Checked.{Checked}
-use Rattle.spf_kernel.proofs.Parsing.{parses, rule_fault}
+use Rattle.spf_kernel.proofs.Parsing.{kept}
 use Rattle.spf_kernel.proofs.kernel.judge.Goals as goal
 
 pub kernel_of-requires-clause-checked : goal.kernel_of-requires-clause-checked
@@ -10,11 +10,11 @@ kernel_of-requires-clause-checked c =
     subst (λ (notes : List Note). Checked (texts c.args.tokens.now) notes (Ok c.in-Ok.names)) (c.as_slice.ensures ∙ c.in_ok-notes.ensures) (rw c.in-Ok.is at c.in_ok-names.ensures)
 
 pub returns-in-Ok : goal.returns-in-Ok
-returns-in-Ok c = λ from stands.
+returns-in-Ok c =
     let checked = subst (λ (notes : List Note). Checked (texts c.args.tokens.now) notes (Ok c.in-Ok.names)) (c.as_slice.ensures ∙ c.in_ok-notes.ensures) (rw c.in-Ok.is at c.in_ok-names.ensures) in
-    parses c.args.tokens.now from c.args.next c.args.raw.now stands c.in-Ok.names c.in_ok-kernel_of-in-Ok.field-0 checked c.in_ok-kernel_of-in-Ok.ensures
+    kept c.args.tokens.now c.args.raw.now c.in-Ok.names c.in_ok-kernel_of-in-Ok.field-0 checked c.in_ok-kernel_of-in-Ok.ensures
 
 pub returns : goal.returns
-returns c = λ from stands.
+returns c =
     let broken = subst (λ (notes : List Note). Checked (texts c.args.tokens.now) notes (Err c.in-Err.breach)) (c.as_slice.ensures ∙ c.in_ok-notes.ensures) (rw c.in-Err.is at c.in_ok-names.ensures) in
-    rule_fault c.args.tokens.now from c.args.next c.args.raw.now stands c.in-Err.breach c.place_from.result broken c.place_from.ensures
+    (_, broken, c.place_from.ensures)

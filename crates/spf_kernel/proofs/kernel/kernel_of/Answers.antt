@@ -1,4 +1,4 @@
-use Rattle.spf_kernel.proofs.Parsing.{are_names, parses, is_parsed}
+use Rattle.spf_kernel.proofs.Parsing.{are_names, is_parsed}
 use Rattle.spf_kernel.proofs.kernel.kernel_of.Goals as goal
 
 pub resolve-requires : goal.resolve-requires
@@ -7,5 +7,4 @@ resolve-requires c = let s = c.requires.stands in are_names c.args.tokens.now s.
 pub invariant_of-result : goal.invariant_of-result
 invariant_of-result c =
     let s = c.requires.stands in
-    is_parsed c.args.tokens.now s.0 s.1 c.args.raw.now s.2 c.in_ok-tree.tree c.requires.lexed
-    (parses c.args.tokens.now s.0 s.1 c.args.raw.now s.2 c.args.names.now c.in_ok-tree.tree c.requires.checked c.in_ok-tree.ensures)
+    is_parsed c.args.tokens.now s.0 s.1 c.args.raw.now s.2 c.args.names.now c.in_ok-tree.tree c.requires.lexed c.requires.checked c.in_ok-tree.ensures

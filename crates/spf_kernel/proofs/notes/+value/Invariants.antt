@@ -1,11 +1,10 @@
 use Rattle.std.proofs.Common.{◌≡◌, ◌++◌, take, flat_map}
-use Rattle.spf_kernel.specs.declared.raw.RawValue.{out-RawValue}
-use Rattle.spf_kernel.specs.Notes.{fact_notes, prod_notes}
+use Rattle.spf_kernel.specs.Notes.{fact_notes}
 use Rattle.spf_kernel.proofs.NoteEquations.{summand_notes}
 use Rattle.spf_kernel.proofs.notes.+value.Given as goal
 
-abbrev pub invariant-note_prod-loop-fact : goal.invariant-note_prod-loop-fact
-invariant-note_prod-loop-fact l = l.notes ≡ l.fn.notes ++ fact_notes l.scope l.prod.first ++ flat_map (fact_notes l.scope) (take l.fact-index l.fact-items)
+abbrev pub invariant-note_summand-loop-fact : goal.invariant-note_summand-loop-fact
+invariant-note_summand-loop-fact l = l.notes ≡ l.fn.notes ++ flat_map (fact_notes l.scope) (take l.fact-index l.fact-items)
 
 abbrev pub invariant-note_value-loop-summand : goal.invariant-note_value-loop-summand
-invariant-note_value-loop-summand l = l.notes ≡ l.fn.notes ++ prod_notes l.scope (out-RawValue l.value).first ++ flat_map (summand_notes l.scope) (take l.summand-index l.summand-items)
+invariant-note_value-loop-summand l = l.notes ≡ l.fn.notes ++ flat_map (summand_notes l.scope) (take l.summand-index l.summand-items)

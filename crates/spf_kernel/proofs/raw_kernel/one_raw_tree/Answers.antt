@@ -1,4 +1,4 @@
-use Rattle.spf_kernel.proofs.KernelReading.{one_tree}
+use Rattle.spf_kernel.proofs.OneKernel.{one_tree}
 use Rattle.spf_kernel.proofs.raw_kernel.one_raw_tree.Goals as goal
 
 pub returns : goal.returns

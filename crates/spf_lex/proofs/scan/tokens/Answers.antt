@@ -1,18 +1,24 @@
-use Rattle.std.proofs.Common.{arith}
+use Rattle.std.proofs.Common.{arith, refl}
 use Rattle.spf_lex.specs.Tokens.{done}
-use Rattle.spf_lex.proofs.Spans.{after_gap, after_token, lacks_token}
+use Rattle.spf_lex.proofs.Spans.{after_gap, scanned_token, lacks_token, all_read}
 use Rattle.spf_lex.proofs.scan.tokens.Goals as goal
 
 pub loop-at-init : goal.loop-at-init
-loop-at-init c = record { inside = omega arith; reads = rw c.new-spans.ensures.items done }
+loop-at-init c = rw (c.new-spans.ensures.items, c.new-lexemes.ensures.items) (record { reads = record { inside = omega arith; reads = done }; each = refl })
 
 pub loop-at-preserved-in-Some : goal.loop-at-preserved-in-Some
-loop-at-preserved-in-Some c = after_gap _ _ _ c.loop-at.invariant _ c.in-Some.ensures
+loop-at-preserved-in-Some c = record { reads = after_gap _ _ _ c.loop-at.invariant.reads _ c.in-Some.ensures; each = c.loop-at.invariant.each }
 
 pub loop-at-preserved : goal.loop-at-preserved
 loop-at-preserved c =
-    rw (c.push.ensures.items, ← c.map_err.ensures.variant, c.in_ok-map_err.was) (after_token _ _ _ c.loop-at.invariant _ c.in-Some-token_len.ensures)
+    scanned_token _ _ _ c.loop-at.invariant.reads _ _ _ c.in-Some-token_at.found c.loop-at.invariant.each c.in-Some-token_at.ensures c.in_ok-keep.ensures.spans c.in_ok-keep.ensures.lexemes
 
-pub returns-in_default-token_len-clause-fault : goal.returns-in_default-token_len-clause-fault
-returns-in_default-token_len-clause-fault c =
-    (c.loop-at.at, lacks_token _ _ _ c.loop-at.invariant c.loop-at-test.true c.in_default.ensures c.in_default-token_len.ensures, c.place_at.ensures)
+pub new-requires : goal.new-requires
+new-requires c = record {
+  tokenized = record { short = c.requires; tokens = all_read _ _ _ c.loop-at.invariant.reads c.loop-at-test.false };
+  each = c.loop-at.invariant.each;
+}
+
+pub returns-in_default-token_at-clause-fault : goal.returns-in_default-token_at-clause-fault
+returns-in_default-token_at-clause-fault c =
+    (c.loop-at.at, lacks_token _ _ _ c.loop-at.invariant.reads c.loop-at-test.true c.in_default.ensures c.in_default-token_at.ensures, c.place_at.ensures)

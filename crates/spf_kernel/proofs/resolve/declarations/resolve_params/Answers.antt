@@ -1,10 +1,6 @@
-use Rattle.std.proofs.Common.{arith}
 use Rattle.spf_lex.specs.Tokens.{texts}
 use Rattle.spf_kernel.proofs.Naming.{param_at}
 use Rattle.spf_kernel.proofs.resolve.declarations.resolve_params.Goals as goal
 
 pub resolve_name-requires : goal.resolve_name-requires
-resolve_name-requires c = c.requires 0 c.args.first (omega arith)
-
-pub resolve_name-requires-in-loop-token : goal.resolve_name-requires-in-loop-token
-resolve_name-requires-in-loop-token c = param_at (texts c.args.tokens.now) c.args.first c.args.others.now c.loop-token.token-index _ c.loop-token-test.true c.requires
+resolve_name-requires c = param_at (texts c.args.tokens.now) c.args.params.now c.loop-token.token-index _ c.loop-token-test.true c.requires

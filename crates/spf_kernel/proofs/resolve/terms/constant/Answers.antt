@@ -1,13 +1,15 @@
-use Rattle.std.proofs.Common.{arith, fold, is_some, take, ◌+ℤ◌}
+use Rattle.std.proofs.Common.{arith, fold, is_some, pos, take, ◌+ℤ◌}
 use Rattle.std.proofs.lemmas.Grind.{common_steps}
-use Rattle.spf_kernel.specs.declared.raw.RawIx.{out-RawIx}
 use Rattle.spf_kernel.specs.declared.raw.RawStep.{RawStep}
 use Rattle.spf_kernel.specs.Resolved.{alone_of}
-use Rattle.spf_kernel.proofs.Signs.{wrap_sum}
+use Rattle.spf_kernel.proofs.Signs.{wrap_sum, wrap_zero}
 use Rattle.spf_kernel.proofs.resolve.terms.constant.Goals as goal
+
+pub loop-step-init : goal.loop-step-init
+loop-step-init c = wrap_zero
 
 pub loop-step-preserved : goal.loop-step-preserved
 loop-step-preserved c =
-    let before = fold (λ total (step : RawStep). total +ℤ alone_of step.minus step.mono) (alone_of (is_some (out-RawIx c.args.ix.now).lead) (out-RawIx c.args.ix.now).first) (take c.loop-step.step-index c.as_slice-step-items.result.now) in
-    let e = wrap_sum before (alone_of c.step-item.result.minus c.step-item.result.mono) in
+    let before = fold (λ total (step : RawStep). total +ℤ alone_of (is_some step.minus) step.mono) (pos 0) (take c.loop-step.step-index c.as_slice-step-items.result.now) in
+    let e = wrap_sum before (alone_of (is_some c.step-item.result.minus) c.step-item.result.mono) in
     grind (arith, common_steps)

@@ -1,8 +1,0 @@
-use Rattle.spf_kernel.proofs.OneKernel.{one_kernel, no_syntax_fault}
-use Rattle.spf_kernel.proofs.found.one_kernel_stands.Goals as goal
-
-pub returns-clause-one : goal.returns-clause-one
-returns-clause-one c = one_kernel
-
-pub returns-clause-no_fault : goal.returns-clause-no_fault
-returns-clause-no_fault c = no_syntax_fault

@@ -1,8 +1,0 @@
-use Rattle.std.proofs.Common.{◌≡◌, ◌-◌}
-use Rattle.spf_kernel.specs.Reader.{many}
-use Rattle.spf_kernel.proofs.Turns.{Rest}
-use Rattle.spf_kernel.proofs.repeated.repeated.Given as goal
-
--- what was read, and what is still read, are the whole
-abbrev pub invariant-loop-turn : goal.invariant-loop-turn
-invariant-loop-turn g l = many g.P.Part.begins g.P.Part.reading l.fn.tokens ≡ Rest g.P.Part.begins g.P.Part.reading l.parts (l._turn-end - l._turn) l.tokens

@@ -1,4 +1,0 @@
-mod grammar;
-mod letter;
-mod tokens;
-mod words;
