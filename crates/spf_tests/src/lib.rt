@@ -14,6 +14,8 @@ mod kernel;
 #[cfg(test)]
 mod lex;
 #[cfg(test)]
+mod script;
+#[cfg(test)]
 mod term;
 #[cfg(test)]
 mod tiles;
