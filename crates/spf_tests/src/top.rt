@@ -1,5 +1,7 @@
+use spf_base::Place;
 use spf_io::{MemSink, MemSource};
-use spf_top::{Outcome, command, status};
+use spf_lex::TextKind;
+use spf_top::{Outcome, What, command, status};
 use std::alloc::Global;
 use std::test::Fail;
 
@@ -80,17 +82,12 @@ fn bundles_of_the_first_form_are_run(rt: HostRuntime) -> Result<(), Fail> {
 }
 
 #[test]
-fn other_inputs_wait_for_later(rt: HostRuntime) -> Result<(), Fail> {
-    let rows: [&[u8]; 9] = [
-        b"",
-        b"spf 2 kernel { param n; data x[n]; steps 1; loop a (i in 0 .. n) { } } script { } input { n = 0; x = ; }",
-        b"spf 1 kernel { param n; data x[n]; steps 1; loop a (i in 0 .. n) { } } script { } input { n = 0; x = ; } spf",
+fn other_bundles_wait_for_later(rt: HostRuntime) -> Result<(), Fail> {
+    let rows: [&[u8]; 4] = [
+        b"spf 1 kernel { param n; data x[n]; steps 1; loop a (i in 0 .. n) { x[i] = x[i] - 1; } } script { } input { n = 0; x = ; }",
         b"spf 1 kernel { param n; data x[n]; steps 1; loop a (i in 0 .. n) { } } script { } input { n = 1; x = ; }",
         b"spf 1 kernel { param n; data x[n]; steps 1; loop a (i in 0 .. n) { } } script { } input { n = 1; x = 9223372036854775808; }",
-        b"spf 1 kernel { param n; data x[n]; steps 1; loop a (i in 0 .. n) { } } script { } input { n = 1; x = - ; }",
-        b"spf 1 kernel { param n; data x[n]; steps 4194305; loop a (i in 0 .. n) { } } script { } input { n = 0; x = ; }",
         b"spf 1 kernel { param n; data x[n]; steps 4194304; loop a (i in 0 .. n) { } } script { } input { n = 2; x = 1 2; }",
-        b"spf 1 kernel { param n; data x[n]; steps 1; loop a (i in 0 .. n) { @ } } script { } input { n = 0; x = ; }",
     ];
     for input in rows {
         let ran = run(rt.alloc(), &["run"], input, &[], &[])?;
@@ -102,17 +99,125 @@ fn other_inputs_wait_for_later(rt: HostRuntime) -> Result<(), Fail> {
 }
 
 #[test]
-fn one_byte_more_than_64_mib_waits_for_later(rt: HostRuntime) -> Result<(), Fail> {
-    let mut words = Vec::new(rt.alloc());
-    words.push(String::from_str(rt.alloc(), "run")?)?;
-    let spaces = vec![in rt.alloc(); b' '; 67_108_865]?;
-    let mut source = MemSource::new(spaces, u32::MAX, Vec::new(rt.alloc()));
-    let mut out = MemSink::new(rt.alloc(), 100, 3, Vec::new(rt.alloc()))?;
-    let mut err = MemSink::new(rt.alloc(), 100, 16, Vec::new(rt.alloc()))?;
-    let outcome = command(rt.alloc(), &words, &mut source, &mut out, &mut err);
-    assert_eq!(rt; outcome, Outcome::Later);
-    assert!(rt; out.written().is_empty());
-    assert_eq!(rt; err.written(), b"later\n".as_slice());
+fn texts_that_are_no_bundle_are_told(rt: HostRuntime) -> Result<(), Fail> {
+    let rows: [(&[u8], Outcome, &[u8]); 7] = [
+        (
+            b"",
+            Outcome::Text {
+                place: Place { line: 1, column: 1 },
+                kind: TextKind::End,
+            },
+            b"text: 1:1 end\n",
+        ),
+        (
+            b"spf 2 kernel { param n; data x[n]; steps 1; loop a (i in 0 .. n) { } } script { } input { n = 0; x = ; }",
+            Outcome::Text {
+                place: Place { line: 1, column: 5 },
+                kind: TextKind::Unexpected,
+            },
+            b"text: 1:5 unexpected\n",
+        ),
+        (
+            b"spf 1 kernel { param n; data x[n]; steps 1; loop a (i in 0 .. n) { } } script { } input { n = 0; x = ; } spf",
+            Outcome::Text {
+                place: Place {
+                    line: 1,
+                    column: 106,
+                },
+                kind: TextKind::Unexpected,
+            },
+            b"text: 1:106 unexpected\n",
+        ),
+        (
+            b"spf 1 kernel { param n; data x[n]; steps 1; loop a (i in 0 .. n) { } } script { } input { n = 1; x = - ; }",
+            Outcome::Text {
+                place: Place {
+                    line: 1,
+                    column: 104,
+                },
+                kind: TextKind::Unexpected,
+            },
+            b"text: 1:104 unexpected\n",
+        ),
+        (
+            b"spf 1 kernel { param n; data x[n]; steps 1; loop a (i in 0 .. n) { @ } } script { } input { n = 0; x = ; }",
+            Outcome::Text {
+                place: Place {
+                    line: 1,
+                    column: 68,
+                },
+                kind: TextKind::Token,
+            },
+            b"text: 1:68 token\n",
+        ),
+        (
+            b"spf 1 kernel { param n; data x[n]; steps 4194305; loop a (i in 0 .. n) { } } script { } input { n = 0; x = ; }",
+            Outcome::Kernel {
+                place: Place {
+                    line: 1,
+                    column: 42,
+                },
+                rule: 5,
+            },
+            b"kernel: 1:42 rule 5\n",
+        ),
+        (
+            b"spf 1\nkernel { data x[2], y[2]; steps 1; loop a (i in 0 .. 2) { x[y[i]] = 0; } }\nscript { }\ninput { }\n",
+            Outcome::Kernel {
+                place: Place {
+                    line: 2,
+                    column: 61,
+                },
+                rule: 4,
+            },
+            b"kernel: 2:61 rule 4\n",
+        ),
+    ];
+    for (input, outcome, line) in rows {
+        let ran = run(rt.alloc(), &["run"], input, &[], &[])?;
+        assert_eq!(rt; ran.outcome, outcome);
+        assert!(rt; ran.out.is_empty());
+        assert_eq!(rt; ran.err.as_slice(), line);
+    }
+    Ok(())
+}
+
+/// What a run on so many blanks ends with, and its line.
+fn run_blanks(alloc: Global, count: usize) -> Result<(Outcome, Vec<u8>), Fail> {
+    let mut words = Vec::new(alloc);
+    words.push(String::from_str(alloc, "run")?)?;
+    let spaces = vec![in alloc; b' '; count]?;
+    let mut source = MemSource::new(spaces, u32::MAX, Vec::new(alloc));
+    let mut out = MemSink::new(alloc, 100, 3, Vec::new(alloc))?;
+    let mut err = MemSink::new(alloc, 100, 16, Vec::new(alloc))?;
+    let outcome = command(alloc, &words, &mut source, &mut out, &mut err);
+    Ok((outcome, Vec::from_slice(alloc, err.written())?))
+}
+
+#[test]
+fn one_byte_more_than_64_mib_is_too_many(rt: HostRuntime) -> Result<(), Fail> {
+    let (outcome, line) = run_blanks(rt.alloc(), 67_108_865)?;
+    assert_eq!(rt;
+        outcome,
+        Outcome::Limit {
+            what: What::Bytes,
+            count: 67_108_865
+        }
+    );
+    assert_eq!(rt; line.as_slice(), b"limit: bytes 67108865\n".as_slice());
+    let (outcome, line) = run_blanks(rt.alloc(), 67_108_864)?;
+    let place = Place {
+        line: 1,
+        column: 67_108_865,
+    };
+    assert_eq!(rt;
+        outcome,
+        Outcome::Text {
+            place,
+            kind: TextKind::End
+        }
+    );
+    assert_eq!(rt; line.as_slice(), b"text: 1:67108865 end\n".as_slice());
     Ok(())
 }
 
@@ -180,12 +285,28 @@ fn a_refused_word_and_a_device_that_fails_are_told(rt: HostRuntime) -> Result<()
 
 #[test]
 fn each_outcome_has_its_status(rt: HostRuntime) {
+    let place = Place { line: 1, column: 1 };
     let rows = [
         (Outcome::Done, 0),
         (Outcome::Memory, 1),
         (Outcome::Usage { word: 1 }, 2),
         (Outcome::ReadFault, 3),
         (Outcome::WriteFault, 4),
+        (
+            Outcome::Text {
+                place,
+                kind: TextKind::End,
+            },
+            5,
+        ),
+        (Outcome::Kernel { place, rule: 4 }, 6),
+        (
+            Outcome::Limit {
+                what: What::Bytes,
+                count: 67_108_865,
+            },
+            12,
+        ),
         (Outcome::Later, 14),
     ];
     for (outcome, wanted) in rows {
