@@ -1,5 +1,5 @@
 # What a user and a change call. `rt` is the toolchain's command; it proves before it builds.
-.PHONY: run test spf try cases
+.PHONY: run test spf try cases bench
 
 # The program, proved and built, on the first example.
 run:
@@ -23,3 +23,7 @@ try:
 # The program on each folder of cases/.
 cases: spf
 	cases/run bin/spf
+
+# How fast the proved program reads, beside `wc -w`.
+bench: spf
+	bench/reading bin/spf
