@@ -1,0 +1,15 @@
+//! How large a kernel's loops and arrays are, and its units of work, numbered in textual order.
+//!
+//! A shape has the number of steps, each loop's first iteration and extent, and where each array lies among the cells. A
+//! unit is one iteration of one loop at one step. Upward the crate gives one contract: the ordinal of a unit is its place in
+//! the list of all units in textual order (`units_of`), and `split` finds the unit at a place of that list; a unit stands
+//! before another in textual order exactly where its ordinal is the lesser (`ordinals_are_textual_order`).
+//!
+//! It stands on spf_base for names. Its calls are linear in the loops, of which a kernel has at most 32, and take no memory.
+#![tactic(auto)]
+
+mod shape;
+mod unit;
+
+pub use shape::{ArrayShape, LoopShape, Shape};
+pub use unit::{Unit, ordinals_are_textual_order};
