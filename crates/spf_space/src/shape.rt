@@ -49,14 +49,15 @@ impl Shape {
         }
     }
 
-    /// How many iterations one step has. Linear in the loops, as are the calls below.
+    /// How many iterations one step has. Linear in the loops.
     pub fn per_step(&self) -> u32
         ensures { result ≡ iterations self.now.loops }
     {
         extents(self.loops.as_slice())
     }
 
-    /// How many units there are.
+    /// How many units there are. Linear in the loops.
+    #[tactic(auto, using(crate::proofs::Standing::units_length))]
     pub fn units(&self) -> u32
         ensures count { result ≡ length (units_of self.now.steps self.now.loops) }
         ensures product { result ≡ self.now.steps * iterations self.now.loops }
@@ -64,7 +65,7 @@ impl Shape {
         self.steps * self.per_step()
     }
 
-    /// The unit's place among all units in textual order.
+    /// The unit's place among all units in textual order. Linear in the loops.
     pub fn ordinal(&self, unit: &Unit) -> u32
         requires { IsUnitOf self.now.steps self.now.loops unit.now }
         ensures { slice_get (units_of self.now.steps self.now.loops) result ≡ Some unit.now }
@@ -73,7 +74,8 @@ impl Shape {
         unit.step * self.per_step() + before + unit.position
     }
 
-    /// The unit at this place among all units in textual order.
+    /// The unit at this place among all units in textual order. Linear in the loops.
+    #[tactic(auto, using(crate::proofs::Textual::split_is_within, crate::proofs::Textual::split_stands))]
     pub fn split(&self, ordinal: u32) -> Unit
         requires { ordinal < length (units_of self.now.steps self.now.loops) }
         ensures { slice_get (units_of self.now.steps self.now.loops) ordinal ≡ Some result }
