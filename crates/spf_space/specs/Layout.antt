@@ -31,6 +31,7 @@ pub record IsLayout (steps : ℕ) (loops : List LoopShape) (arrays : List ArrayS
   pub adjacent : AreAdjacent 0 arrays
   pub cells : cells_in arrays < 2 ^ 32
 
+-- that arrays are adjacent has one proof at most, so that a type can keep it
 pub AreAdjacent-prop : (from : ℕ) (arrays : List ArrayShape) → IsProp (AreAdjacent from arrays)
 AreAdjacent-prop from [] = Unit-prop
 AreAdjacent-prop from (array ∷ arrays) = ×_prop (Coded-set coded_ℕ array.start from) (AreAdjacent-prop (from + array.length) arrays)
