@@ -18,6 +18,8 @@ mod lex;
 #[cfg(test)]
 mod script;
 #[cfg(test)]
+mod space;
+#[cfg(test)]
 mod term;
 #[cfg(test)]
 mod tiles;
