@@ -1,0 +1,4 @@
+pub mod Environment
+pub mod Told
+pub mod Value
+pub mod Walk

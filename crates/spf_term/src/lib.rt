@@ -7,6 +7,8 @@
 
 mod env;
 mod term;
+mod walk;
 
 pub use env::Env;
 pub use term::{Atom, Mono, Term};
+pub use walk::{Reader, Walked};

@@ -1,0 +1,40 @@
+-- Walks through one list of events behind another.
+use Rattle.std.proofs.Common.{◌≡◌, List, [], ◌∷◌, ◌++◌, refl, ap, sym, ◌∙◌, subst, append_assoc, Result, Err}
+use Rattle.spf_term.specs.Walk.{Through, StopsAt, Walks}
+
+module _ {S E : Type 0} (accepts : S → E → S → Type 0) where
+  pub through_both : (a b : List E) (before between after : S) → Through accepts before a between → Through accepts between b after → Through accepts before (a ++ b) after
+  through_both [] b before between after same second = subst (λ (state : S). Through accepts state b after) (sym same) second
+  through_both (event ∷ a) b before between after first second = (first.0, first.1, through_both a b first.0 between after first.2 second)
+
+  pub through_parts : (a b : List E) (before after : S) → Through accepts before (a ++ b) after → (between : S) × Through accepts before a between × Through accepts between b after
+  through_parts [] b before after all = (before, refl, all)
+  through_parts (event ∷ a) b before after all =
+      let parts = through_parts a b all.0 after all.2 in
+      (parts.0, (all.0, all.1, parts.1), parts.2)
+
+  module _ {R : Type 0} (refuses : S → E → R → Type 0) where
+    pub stop_in_front : (a b : List E) (before : S) (stop : R) → StopsAt accepts refuses before a stop → StopsAt accepts refuses before (a ++ b) stop
+    stop_in_front a b before stop at = record {
+      accepted = at.accepted;
+      event = at.event;
+      rest = at.rest ++ b;
+      splits = ap (λ (events : List E). events ++ b) at.splits ∙ append_assoc at.accepted (at.event ∷ at.rest) b;
+      state = at.state;
+      through = at.through;
+      refused = at.refused;
+    }
+
+    pub stop_behind : (a b : List E) (before between : S) (stop : R) → Through accepts before a between → StopsAt accepts refuses between b stop → StopsAt accepts refuses before (a ++ b) stop
+    stop_behind a b before between stop first at = record {
+      accepted = a ++ at.accepted;
+      event = at.event;
+      rest = at.rest;
+      splits = ap (λ (events : List E). a ++ events) at.splits ∙ sym (append_assoc a at.accepted (at.event ∷ at.rest));
+      state = at.state;
+      through = through_both a at.accepted before between at.state first at.through;
+      refused = at.refused;
+    }
+
+    pub stopped_walk : {A : Type 0} (events : List E) (before after : S) (result : Result A R) (stop : R) → (other : R) × (result ≡ Err other) × (other ≡ stop) → StopsAt accepts refuses before events stop → Walks accepts refuses before events result after
+    stopped_walk {A} events before after result stop known at = subst (λ (of : Result A R). Walks accepts refuses before events of after) (sym (known.1 ∙ ap Err known.2)) at
