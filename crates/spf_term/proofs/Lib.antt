@@ -1,3 +1,5 @@
-pub mod Walks
+pub mod AllInside
 pub mod Monos
 pub mod Progress
+pub mod SameReads
+pub mod WalkParts

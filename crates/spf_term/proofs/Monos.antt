@@ -1,5 +1,6 @@
 -- Terms, told of their monomials as lists.
-use Rattle.std.proofs.Common.{◌≡◌, ℕ, ◌+◌, ℤ, pos, ◌+ℤ◌, ◌*ℤ◌, List, [], ◌∷◌, ◌++◌, refl, ap, sym, ◌∙◌}
+use Rattle.std.proofs.Common.{◌≡◌, ℕ, ◌+◌, ℤ, pos, ◌+ℤ◌, ◌*ℤ◌, List, [], ◌∷◌, ◌++◌, refl, ap, sym, ◌∙◌, ◌<◌, length, get_or, drop}
+use Rattle.std.proofs.lemmas.List.{drop_more}
 use Rattle.spf_term.specs.declared.term.Term.{Term, Term', out-Term, Row_of-Mono, end_of-Mono, more_of-Mono, items-the_row-Mono, items_shown-the_row-Mono-0}
 use Rattle.spf_term.specs.declared.term.Mono.{Mono}
 use Rattle.spf_term.specs.Environment.{Environment}
@@ -17,6 +18,9 @@ row_applications (more_of-Mono coef atom others) = ap (λ more. atom_application
 pub applications_are : (term : Term) → applications term ≡ list_applications (out-Term term).monos
 unfolding out-Term denote.Hole.Carrier.out
 applications_are (Term' shape monos constant) = row_applications monos ∙ ap list_applications (sym (items_shown-the_row-Mono-0 shape monos))
+
+pub drop_next : (monos : List Mono) (index : ℕ) (mono : Mono) → index < length monos → mono ≡ get_or monos index mono → drop index monos ≡ mono ∷ drop (index + 1) monos
+drop_next monos index mono inside at = drop_more monos index mono inside ∙ ap (λ (first : Mono). first ∷ drop (index + 1) monos) (sym at)
 
 module _ (env : Environment) (variables : List ℤ) where
   abbrev pub list_value : List Mono → ℤ

@@ -1,7 +1,7 @@
 -- How far a walk has come in a term.
 use Rattle.std.proofs.Common.{◌≡◌, ℕ, ◌+◌, ◌%◌, ◌^◌, ◌<◌, ℤ, pos, ◌+ℤ◌, ◌*ℤ◌, List, [], ◌∷◌, ◌++◌, refl, ap, sym, ◌∙◌, subst, arith, append_assoc, append-nil, length, drop, get_or, ◌≤◌, FitsSigned, w64}
 use Rattle.std.proofs.lemmas.Int.{ints, int_wrap_fits, int_wrap-add_left, int_wrap-add_right, int_wrap-add_same}
-use Rattle.std.proofs.lemmas.List.{drop_all, drop_more}
+use Rattle.std.proofs.lemmas.List.{drop_all}
 use Rattle.std.specs.Int.{int_wrap}
 use Rattle.spf_base.specs.Wrap.{wrap}
 use Rattle.spf_term.specs.declared.term.Term.{Term, out-Term}
@@ -11,8 +11,8 @@ use Rattle.spf_term.specs.Environment.{Environment}
 use Rattle.spf_term.specs.Value.{Entry, applications, atom_applications, value, atom_value, number_at, table_at}
 use Rattle.spf_term.specs.Told.{AreSmall, later, told, atom_told}
 use Rattle.spf_term.specs.Walk.{Through, StopsAt}
-use Rattle.spf_term.proofs.Walks.{through_both, stop_in_front, stop_behind}
-use Rattle.spf_term.proofs.Monos.{list_applications, applications_are, list_value, value_is, list_told, told_are}
+use Rattle.spf_term.proofs.WalkParts.{through_both, stop_in_front, stop_behind}
+use Rattle.spf_term.proofs.Monos.{drop_next, list_applications, applications_are, list_value, value_is, list_told, told_are}
 
 -- ---- numbers
 
@@ -116,7 +116,7 @@ module _ {S : Type 0} (accepts : S → Entry → S → Type 0) (env : Environmen
   module _ (items : List Mono) (index : ℕ) (now : S) (sum : ℤ) (next : ℕ) (progress : Progress (drop index items) now sum next) where
     module _ (mono : Mono) (inside : index < length items) (at : mono ≡ get_or items index mono) where
       here : Progress (mono ∷ drop (index + 1) items) now sum next
-      here = subst (λ (monos : List Mono). Progress monos now sum next) (drop_more items index mono inside ∙ ap (λ (first : Mono). first ∷ drop (index + 1) items) (sym at)) progress
+      here = subst (λ (monos : List Mono). Progress monos now sum next) (drop_next items index mono inside at) progress
 
       pub next_is_small : AreSmall (atom_told env variables next mono.atom)
       next_is_small = small_front _ (list_told env variables (later next (atom_applications mono.atom)) (drop (index + 1) items)) here.small

@@ -1,6 +1,7 @@
 -- What a walk tells, whatever the numbers: behind the last number of 32 bits they go on from 0.
-use Rattle.std.specs.Prelude.{ℕ, ◌+◌, ◌%◌, ◌^◌, ℤ, List, [], ◌∷◌, ◌++◌, FitsSigned, ⊤}
+use Rattle.std.specs.Prelude.{ℕ, ◌+◌, ◌%◌, ◌^◌, ℤ, List, [], ◌∷◌, ◌++◌, FitsSigned}
 use Rattle.std.specs.Int.{w64}
+use Rattle.std.specs.List.{AllByRecursion}
 use Rattle.spf_term.specs.Environment.{Environment}
 use Rattle.spf_term.specs.Value.{Entry, applications, atom_applications, value}
 use Rattle.spf_term.specs.declared.term.Atom.{Atom, Var, Param, App}
@@ -27,5 +28,4 @@ module _ (env : Environment) (variables : List ℤ) where
 
 -- each place that is read is a number of 64 bits
 abbrev pub AreSmall : List Entry → Type 0
-AreSmall [] = ⊤
-AreSmall (entry ∷ entries) = FitsSigned w64 entry.place × AreSmall entries
+AreSmall = AllByRecursion (λ (entry : Entry). FitsSigned w64 entry.place)

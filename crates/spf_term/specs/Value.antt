@@ -1,6 +1,7 @@
 -- The value of a term, and the entries of tables that are read for it.
-use Rattle.std.specs.Prelude.{ℕ, ◌+◌, ◌<◌, ℤ, pos, negsuc, ◌+ℤ◌, ◌*ℤ◌, ◌≤ℤ◌, ◌<ℤ◌, List, [], ◌∷◌, ◌++◌, length, All, slice_index_or, FitsSigned}
+use Rattle.std.specs.Prelude.{ℕ, ◌+◌, ◌<◌, ℤ, pos, negsuc, ◌+ℤ◌, ◌*ℤ◌, ◌≤ℤ◌, ◌<ℤ◌, List, [], ◌∷◌, ◌++◌, length, All, slice_index_or, FitsSigned, Option, None, Some, ◌≡◌}
 use Rattle.std.specs.Int.{w64}
+use Rattle.std.specs.List.{Any}
 use Rattle.spf_term.specs.Environment.{Environment}
 use Rattle.spf_term.specs.declared.term.Atom.{Atom, Var, Param, App}
 use Rattle.spf_term.specs.declared.term.Term.{Term, Term', Row_of-Mono, end_of-Mono, more_of-Mono}
@@ -73,3 +74,8 @@ module _ (env : Environment) (variables : List ℤ) where
   pub record IsSmall (term : Term) : Type 0 where
     pub value : FitsSigned w64 (value term)
     pub places : All (λ (entry : Entry). FitsSigned w64 entry.place) (entries 0 term)
+
+  -- the value, where each entry that is read is inside its table; none, where some entry isn't
+  abbrev pub IsAnswer : Term → Option ℤ → Type 0
+  IsAnswer term None = Any (λ (entry : Entry). ¬ IsInside env entry) (entries 0 term)
+  IsAnswer term (Some number) = All (IsInside env) (entries 0 term) × (number ≡ value term)

@@ -5,10 +5,14 @@
 //! definition builds. The crate stands on nothing but the kit's lists.
 #![tactic(auto)]
 
+mod counts;
 mod env;
 mod term;
-mod walk;
+mod values;
+mod walks;
 
+pub use counts::applications;
 pub use env::Env;
 pub use term::{Atom, Mono, Term};
-pub use walk::{Reader, Walked};
+pub use values::value;
+pub use walks::{Reader, Walked, walk};

@@ -7,9 +7,9 @@ use Rattle.spf_term.specs.declared.term.Atom.{Atom, App}
 use Rattle.spf_base.specs.Wrap.{wrap}
 use Rattle.spf_term.specs.Value.{value}
 use Rattle.spf_term.specs.Told.{AreSmall, later, told, atom_told}
-use Rattle.spf_term.proofs.Walks.{stopped_walk}
+use Rattle.spf_term.proofs.WalkParts.{stopped_walk}
 use Rattle.spf_term.proofs.Progress.{argument_is_small, argument_stopped, entry_accepted, entry_refused, entry_value, begun, next_is_small, gone_on, stopped, gone_through, sum_is_value, next_is_last}
-use Rattle.spf_term.proofs.walk.+walk.Goals as goal
+use Rattle.spf_term.proofs.walks.+walk.Goals as goal
 
 pub walk_atom-walk_term-requires : goal.walk_atom-walk_term-requires
 walk_atom-walk_term-requires g t c κs within =

@@ -1,6 +1,6 @@
 use Rattle.std.proofs.Common.{drop}
 use Rattle.spf_term.proofs.Progress.{Progress}
-use Rattle.spf_term.proofs.walk.+walk.Given as goal
+use Rattle.spf_term.proofs.walks.+walk.Given as goal
 
 abbrev pub invariant-walk_term-loop-mono : goal.invariant-walk_term-loop-mono
 invariant-walk_term-loop-mono g l =

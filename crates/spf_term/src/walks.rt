@@ -86,3 +86,21 @@ pub(crate) fn walk_term<R: Reader>(
     }
     Ok(Walked { value: sum, next })
 }
+
+/// Evaluates the term from the left to the right, and tells of each entry that it reads. Linear in the term; recurses as
+/// deep as it nests.
+pub fn walk<R: Reader>(
+    env: &Env,
+    variables: &[i64],
+    term: &Term,
+    site: u32,
+    reader: &mut R,
+) -> Result<Walked, R::Stop>
+    requires small { IsSmall env.now variables.now term.now }
+    requires numbered { site + applications term.now < 2 ^ 32 }
+    ensures walks { Walks R.accepts R.refuses reader.old (entries env.now variables.now site term.now) result reader.new }
+    ensures value { IfOk result (λ walked. walked.value ≡ value env.now variables.now term.now) }
+    ensures next { IfOk result (λ walked. walked.next ≡ site + applications term.now) }
+{
+    walk_term(env, variables, term, site, reader)
+}
