@@ -1,4 +1,3 @@
-pub mod AllInside
 pub mod Monos
 pub mod Progress
 pub mod SameReads

@@ -1,5 +1,5 @@
 -- How far a walk has come in a term.
-use Rattle.std.proofs.Common.{◌≡◌, ℕ, ◌+◌, ◌%◌, ◌^◌, ◌<◌, ℤ, pos, ◌+ℤ◌, ◌*ℤ◌, List, [], ◌∷◌, ◌++◌, refl, ap, sym, ◌∙◌, subst, arith, append_assoc, append-nil, length, drop, get_or, ◌≤◌, FitsSigned, w64}
+use Rattle.std.proofs.Common.{◌≡◌, ℕ, ◌+◌, ◌^◌, ◌<◌, ℤ, pos, ◌+ℤ◌, ◌*ℤ◌, List, [], ◌∷◌, ◌++◌, refl, ap, sym, ◌∙◌, subst, arith, append_assoc, append-nil, length, drop, get_or, ◌≤◌, FitsSigned, w64}
 use Rattle.std.proofs.lemmas.Int.{ints, int_wrap_fits, int_wrap-add_left, int_wrap-add_right, int_wrap-add_same}
 use Rattle.std.proofs.lemmas.List.{drop_all}
 use Rattle.std.specs.Int.{int_wrap}
@@ -29,19 +29,13 @@ wrap_step sum product rest =
 later_twice : (site few more : ℕ) → later (later site few) more ≡ later site (few + more)
 later_twice site few more = omega arith
 
--- ---- places
-
-pub small_front : (a b : List Entry) → AreSmall (a ++ b) → AreSmall a
-small_front [] b small = tt
-small_front (entry ∷ a) b small = (small.0, small_front a b small.1)
-
-pub small_behind : (a b : List Entry) → AreSmall (a ++ b) → AreSmall b
-small_behind [] b small = small
-small_behind (entry ∷ a) b small = small_behind a b small.1
+pub split_small : (a b : List Entry) → AreSmall (a ++ b) → AreSmall a × AreSmall b
+split_small [] b small = (tt, small)
+split_small (entry ∷ a) b small = let parts = split_small a b small.1 in ((small.0, parts.0), parts.1)
 
 -- ---- at an application
 
-module _ (env : Environment) (variables : List ℤ) (site : ℕ) (atom : Atom) (fun : ℕ) (arg : Term) (is : atom ≡ App fun arg) (small : AreSmall (atom_told env variables site atom)) where
+module _ (env : Environment) (variables : List ℤ) (site : ℕ) {atom : Atom} {fun : ℕ} {arg : Term} (is : atom ≡ App fun arg) (small : AreSmall (atom_told env variables site atom)) where
   -- what is told of the argument
   abbrev first : List Entry
   first = told env variables (later site 1) arg
@@ -49,45 +43,36 @@ module _ (env : Environment) (variables : List ℤ) (site : ℕ) (atom : Atom) (
   abbrev entry_at : ℤ → Entry
   entry_at place = record { site = site; table = fun; place = place }
 
-  all_small : AreSmall (first ++ entry_at (value env variables arg) ∷ [])
-  all_small = subst AreSmall (ap (atom_told env variables site) is) small
+  are_small : AreSmall first × AreSmall (entry_at (value env variables arg) ∷ [])
+  are_small = split_small first (entry_at (value env variables arg) ∷ []) (subst AreSmall (ap (atom_told env variables site) is) small)
 
   pub argument_is_small : AreSmall first
-  argument_is_small = small_front first (entry_at (value env variables arg) ∷ []) all_small
+  argument_is_small = are_small.0
 
-  module _ (place : ℤ) (wraps : place ≡ wrap (value env variables arg)) where
+  pub argument_stopped : {S R : Type 0} {accepts : S → Entry → S → Type 0} {refuses : S → Entry → R → Type 0} {before : S} {stop : R} → StopsAt accepts refuses before first stop
+      → StopsAt accepts refuses before (atom_told env variables site atom) stop
+  argument_stopped {accepts = accepts} {refuses = refuses} {before = before} {stop = stop} at =
+      subst (λ (events : List Entry). StopsAt accepts refuses before events stop) (sym (ap (atom_told env variables site) is)) (stop_in_front accepts refuses first (entry_at (value env variables arg) ∷ []) before stop at)
+
+  module _ {place : ℤ} (wraps : place ≡ wrap (value env variables arg)) where
     place_is : place ≡ value env variables arg
-    place_is = wraps ∙ wrap_of_small (value env variables arg) (small_behind first (entry_at (value env variables arg) ∷ []) all_small).0
+    place_is = wraps ∙ wrap_of_small (value env variables arg) are_small.1.0
 
     told_are_both : atom_told env variables site atom ≡ first ++ entry_at place ∷ []
     told_are_both = ap (atom_told env variables site) is ∙ ap (λ (of : ℤ). first ++ entry_at of ∷ []) (sym place_is)
 
-    pub entry_value : (table : List ℤ) (number : ℤ) → table ≡ table_at env fun → number ≡ number_at table place → number ≡ atom_value env variables atom
-    entry_value table number is_table is_number = is_number ∙ (λ i. number_at (is_table i) (place_is i)) ∙ sym (ap (atom_value env variables) is)
+    pub entry_value : {table : List ℤ} {number : ℤ} → table ≡ table_at env fun → number ≡ number_at table place → number ≡ atom_value env variables atom
+    entry_value is_table is_number = is_number ∙ (λ i. number_at (is_table i) (place_is i)) ∙ sym (ap (atom_value env variables) is)
 
-  module _ {S : Type 0} (accepts : S → Entry → S → Type 0) (before between : S) where
-    pub argument_stopped : {R : Type 0} (refuses : S → Entry → R → Type 0) (stop : R) → StopsAt accepts refuses before first stop → StopsAt accepts refuses before (atom_told env variables site atom) stop
-    argument_stopped refuses stop at = subst (λ (events : List Entry). StopsAt accepts refuses before events stop) (sym (ap (atom_told env variables site) is))
-        (stop_in_front accepts refuses first (entry_at (value env variables arg) ∷ []) before stop at)
-
-    module _ (through : Through accepts before first between) (place : ℤ) (wraps : place ≡ wrap (value env variables arg)) where
+    module _ {S : Type 0} (accepts : S → Entry → S → Type 0) (before between : S) (through : Through accepts before first between) where
       pub entry_accepted : (after : S) → accepts between (entry_at place) after → Through accepts before (atom_told env variables site atom) after
-      entry_accepted after accepted = subst (λ (events : List Entry). Through accepts before events after) (sym (told_are_both place wraps))
+      entry_accepted after accepted = subst (λ (events : List Entry). Through accepts before events after) (sym told_are_both)
           (through_both accepts first (entry_at place ∷ []) before between after through (after, accepted, refl))
 
       pub entry_refused : {R : Type 0} (refuses : S → Entry → R → Type 0) (stop : R) → refuses between (entry_at place) stop → StopsAt accepts refuses before (atom_told env variables site atom) stop
-      entry_refused refuses stop refused = record {
-        accepted = first;
-        event = entry_at place;
-        rest = [];
-        splits = told_are_both place wraps;
-        state = between;
-        through = through;
-        refused = refused;
-      }
+      entry_refused refuses stop refused = record { accepted = first; event = entry_at place; rest = []; splits = told_are_both; state = between; through = through; refused = refused }
 
 -- ---- in a term
-
 
 module _ {S : Type 0} (accepts : S → Entry → S → Type 0) (env : Environment) (variables : List ℤ) (site : ℕ) (term : Term) (before : S) where
   -- these monomials are still to come, with this reader, sum and next number
@@ -100,60 +85,57 @@ module _ {S : Type 0} (accepts : S → Entry → S → Type 0) (env : Environmen
     pub low : next < 2 ^ 32
     pub small : AreSmall (list_told env variables next monos)
 
-  pub begun : (monos : List Mono) (sum : ℤ) → monos ≡ (out-Term term).monos → sum ≡ (out-Term term).constant → site < 2 ^ 32 → AreSmall (told env variables site term) → Progress monos before sum site
-  begun monos sum are is low small =
+  pub begun : {monos : List Mono} {sum : ℤ} → monos ≡ (out-Term term).monos → sum ≡ (out-Term term).constant → site < 2 ^ 32 → AreSmall (told env variables site term) → Progress monos before sum site
+  begun are is low small =
       let turned : (z w : ℤ) → z +ℤ w ≡ w +ℤ z = λ z w. omega (arith, ints) in
-      record {
-        done = [];
-        splits = told_are env variables site term ∙ ap (list_told env variables site) (sym are);
-        through = refl;
-        sums = ap wrap ((λ i. is i +ℤ list_value env variables (are i)) ∙ turned (out-Term term).constant (list_value env variables (out-Term term).monos) ∙ sym (value_is env variables term));
-        numbers = ap (later site) (ap list_applications are ∙ sym (applications_are term));
-        low = low;
-        small = subst AreSmall (told_are env variables site term ∙ ap (list_told env variables site) (sym are)) small;
-      }
+      let splits = told_are env variables site term ∙ ap (list_told env variables site) (sym are) in
+      let sums = ap wrap ((λ i. is i +ℤ list_value env variables (are i)) ∙ turned (out-Term term).constant (list_value env variables (out-Term term).monos) ∙ sym (value_is env variables term)) in
+      let numbers = ap (later site) (ap list_applications are ∙ sym (applications_are term)) in
+      record { done = []; splits = splits; through = refl; sums = sums; numbers = numbers; low = low; small = subst AreSmall splits small }
 
-  module _ (items : List Mono) (index : ℕ) (now : S) (sum : ℤ) (next : ℕ) (progress : Progress (drop index items) now sum next) where
-    module _ (mono : Mono) (inside : index < length items) (at : mono ≡ get_or items index mono) where
-      here : Progress (mono ∷ drop (index + 1) items) now sum next
-      here = subst (λ (monos : List Mono). Progress monos now sum next) (drop_next items index mono inside at) progress
+module _ {S : Type 0} {accepts : S → Entry → S → Type 0} {env : Environment} {variables : List ℤ} {site : ℕ} {term : Term} {before now : S} {sum : ℤ} {next : ℕ} (items : List Mono) (index : ℕ)
+    (progress : Progress accepts env variables site term before (drop index items) now sum next) where
+  abbrev Goes : List Mono → S → ℤ → ℕ → Type 0
+  Goes = Progress accepts env variables site term before
 
-      pub next_is_small : AreSmall (atom_told env variables next mono.atom)
-      next_is_small = small_front _ (list_told env variables (later next (atom_applications mono.atom)) (drop (index + 1) items)) here.small
+  module _ (mono : Mono) (inside : index < length items) (at : mono ≡ get_or items index mono) where
+    abbrev others : List Mono
+    others = drop (index + 1) items
 
-      pub gone_on : (after : S) (number total : ℤ) (last : ℕ) → Through accepts now (atom_told env variables next mono.atom) after → number ≡ atom_value env variables mono.atom
-          → total ≡ wrap (sum +ℤ wrap (mono.coef *ℤ number)) → last ≡ later next (atom_applications mono.atom) → Progress (drop (index + 1) items) after total last
-      gone_on after number total last through is_number is_total is_last =
-          let rest = drop (index + 1) items in
-          rw (is_total, is_last) (record {
-            done = here.done ++ atom_told env variables next mono.atom;
-            splits = here.splits ∙ sym (append_assoc here.done (atom_told env variables next mono.atom) _);
-            through = through_both accepts here.done (atom_told env variables next mono.atom) before now after here.through through;
-            sums = wrap_step sum (mono.coef *ℤ number) (list_value env variables rest) ∙ ap (λ of. wrap (sum +ℤ ((mono.coef *ℤ of) +ℤ list_value env variables rest))) is_number ∙ here.sums;
-            numbers = later_twice next (atom_applications mono.atom) (list_applications rest) ∙ here.numbers;
-            low = omega arith;
-            small = small_behind (atom_told env variables next mono.atom) _ here.small;
-          })
+    abbrev one : List Entry
+    one = atom_told env variables next mono.atom
 
-      pub stopped : {R : Type 0} (refuses : S → Entry → R → Type 0) (stop : R) → StopsAt accepts refuses now (atom_told env variables next mono.atom) stop
-          → StopsAt accepts refuses before (told env variables site term) stop
-      stopped refuses stop at_stop = subst (λ (events : List Entry). StopsAt accepts refuses before events stop) (sym here.splits)
-          (stop_behind accepts refuses here.done (list_told env variables next (mono ∷ drop (index + 1) items)) before now stop here.through
-              (stop_in_front accepts refuses (atom_told env variables next mono.atom) (list_told env variables (later next (atom_applications mono.atom)) (drop (index + 1) items)) now stop at_stop))
+    abbrev rest : List Entry
+    rest = list_told env variables (later next (atom_applications mono.atom)) others
 
-    module _ (at_end : length items ≤ index) where
-      ended : Progress [] now sum next
-      ended = subst (λ (monos : List Mono). Progress monos now sum next) (drop_all index items at_end) progress
+    here : Goes (mono ∷ others) now sum next
+    here = subst (λ (monos : List Mono). Goes monos now sum next) (drop_next items index mono inside at) progress
 
-      pub gone_through : Through accepts before (told env variables site term) now
-      gone_through = subst (λ (events : List Entry). Through accepts before events now) (sym (ended.splits ∙ append-nil ended.done)) ended.through
+    pub next_is_small : AreSmall one
+    next_is_small = (split_small one rest here.small).0
 
-      pub sum_is_value : FitsSigned w64 sum → sum ≡ wrap (value env variables term)
-      sum_is_value fits =
-          let same : sum ≡ sum +ℤ pos 0 = omega (arith, ints) in
-          sym (wrap_of_small sum fits) ∙ ap wrap same ∙ ended.sums
+    pub gone_on : {after : S} {number total : ℤ} {last : ℕ} → Through accepts now one after → number ≡ atom_value env variables mono.atom
+        → total ≡ wrap (sum +ℤ wrap (mono.coef *ℤ number)) → last ≡ later next (atom_applications mono.atom) → Goes others after total last
+    gone_on {after = after} {number = number} through is_number is_total is_last =
+        let splits = here.splits ∙ sym (append_assoc here.done one rest) in
+        let whole = through_both accepts here.done one before now after here.through through in
+        let sums = wrap_step sum (mono.coef *ℤ number) (list_value env variables others) ∙ ap (λ of. wrap (sum +ℤ ((mono.coef *ℤ of) +ℤ list_value env variables others))) is_number ∙ here.sums in
+        let numbers = later_twice next (atom_applications mono.atom) (list_applications others) ∙ here.numbers in
+        rw (is_total, is_last) (record { done = here.done ++ one; splits = splits; through = whole; sums = sums; numbers = numbers; low = omega arith; small = (split_small one rest here.small).1 })
 
-      pub next_is_last : next ≡ later site (applications term)
-      next_is_last =
-          let same : next ≡ later next 0 = omega arith in
-          same ∙ ended.numbers
+    pub stopped : {R : Type 0} {refuses : S → Entry → R → Type 0} {stop : R} → StopsAt accepts refuses now one stop → StopsAt accepts refuses before (told env variables site term) stop
+    stopped {refuses = refuses} {stop = stop} at_stop = subst (λ (events : List Entry). StopsAt accepts refuses before events stop) (sym here.splits)
+        (stop_behind accepts refuses here.done (one ++ rest) before now stop here.through (stop_in_front accepts refuses one rest now stop at_stop))
+
+  module _ (at_end : length items ≤ index) where
+    ended : Goes [] now sum next
+    ended = subst (λ (monos : List Mono). Goes monos now sum next) (drop_all index items at_end) progress
+
+    pub gone_through : Through accepts before (told env variables site term) now
+    gone_through = subst (λ (events : List Entry). Through accepts before events now) (sym (ended.splits ∙ append-nil ended.done)) ended.through
+
+    pub sum_is_value : FitsSigned w64 sum → sum ≡ wrap (value env variables term)
+    sum_is_value fits = let same : sum ≡ sum +ℤ pos 0 = omega (arith, ints) in sym (wrap_of_small sum fits) ∙ ap wrap same ∙ ended.sums
+
+    pub next_is_last : next ≡ later site (applications term)
+    next_is_last = let same : next ≡ later next 0 = omega arith in same ∙ ended.numbers

@@ -1,12 +1,13 @@
 -- The numbers of the entries that are read, and what doesn't depend on them.
 use Rattle.std.proofs.Common.{◌≡◌, ℕ, ◌+◌, ◌<◌, ◌^◌, ℤ, List, [], ◌∷◌, ◌++◌, length, get_or, map, refl, ap, sym, ◌∙◌, arith, FitsSigned, w64, subst, pos, ◌≤ℤ◌, ◌<ℤ◌}
-use Rattle.std.specs.List.{All, Any}
+use Rattle.std.specs.List.{All, Any, AllByRecursion, Contains}
 use Rattle.std.proofs.lemmas.List.{map-append, get_or-map, length-map}
-use Rattle.std.proofs.lemmas.List.Elements.{recursion_from_All, Contains-get_or}
-use Rattle.spf_term.specs.declared.term.Atom.{Atom, Var, Param, App}
+use Rattle.std.proofs.lemmas.List.Elements.{recursion_from_All, Contains-get_or, All-from_recursion, Contains-append_right}
+use Rattle.spf_term.specs.declared.term.Atom.{Atom, App}
 use Rattle.spf_term.specs.declared.term.Term.{Term, Term', Row_of-Mono, end_of-Mono, more_of-Mono}
 use Rattle.spf_term.specs.Environment.{Environment}
 use Rattle.spf_term.specs.Value.{Entry, IsInside, IsSmall, table_at, applications, sum_applications, atom_applications, value, entries, sum_entries, atom_entries}
+use Rattle.spf_term.specs.Walk.{Through, StopsAt}
 use Rattle.spf_term.specs.Told.{AreSmall, later, told, sum_told, atom_told}
 
 -- which table is read, and where
@@ -31,11 +32,10 @@ module _ (env : Environment) (variables : List ℤ) where
         λ i. first i ++ second i
 
     atom_told_are : (site : ℕ) (atom : Atom) → site + atom_applications atom < 2 ^ 32 → atom_told env variables site atom ≡ atom_entries env variables site atom
-    atom_told_are site (Var number) low = refl
-    atom_told_are site (Param number) low = refl
     atom_told_are site (App fun arg) low =
         let first = ap (λ (next : ℕ). told env variables next arg) (later_is site 1 (omega arith)) ∙ told_are_entries (site + 1) arg (omega arith) in
         ap (λ (events : List Entry). events ++ record { site = site; table = fun; place = value env variables arg } ∷ []) first
+    atom_told_are site _ low = refl
 
   -- ---- whatever the numbers, the same is read
 
@@ -51,11 +51,10 @@ module _ (env : Environment) (variables : List ℤ) where
         map-append read_at (atom_told env variables site atom) _ ∙ (λ i. first i ++ second i) ∙ sym (map-append read_at (atom_entries env variables other atom) _)
 
     same_in_atom : (site other : ℕ) (atom : Atom) → map read_at (atom_told env variables site atom) ≡ map read_at (atom_entries env variables other atom)
-    same_in_atom site other (Var number) = refl
-    same_in_atom site other (Param number) = refl
     same_in_atom site other (App fun arg) =
         map-append read_at (told env variables (later site 1) arg) _ ∙ ap (λ (reads : List (ℕ × ℤ)). reads ++ (fun, value env variables arg) ∷ []) (same_is_read (later site 1) (other + 1) arg)
-            ∙ sym (map-append read_at (entries env variables (other + 1) arg) _)
+        ∙ sym (map-append read_at (entries env variables (other + 1) arg) _)
+    same_in_atom site other _ = refl
 
 -- ---- what is true of entries by what is read
 
@@ -85,10 +84,34 @@ IsSmallPlace entry = FitsSigned w64 entry.place
 pub told_are_small : (env : Environment) (variables : List ℤ) (site : ℕ) (term : Term) → IsSmall env variables term → AreSmall (told env variables site term)
 told_are_small env variables site term small =
     recursion_from_All IsSmallPlace _ (all_alike IsSmallPlace (λ x y e fits. subst (λ (read : ℕ × ℤ). FitsSigned w64 read.1) e fits)
-        (entries env variables 0 term) (told env variables site term) (sym (same_is_read env variables site 0 term)) small.places)
+    (entries env variables 0 term) (told env variables site term) (sym (same_is_read env variables site 0 term)) small.places)
 
 pub inside_alike : (env : Environment) (x y : Entry) → read_at x ≡ read_at y → IsInside env x → IsInside env y
 inside_alike env x y e inside = record {
   low = subst (λ (read : ℕ × ℤ). pos 0 ≤ℤ read.1) e inside.low;
   high = subst (λ (read : ℕ × ℤ). read.1 <ℤ pos (length (table_at env read.0))) e inside.high;
 }
+
+-- ---- a reader that goes on as it is at entries inside their tables, and stops at the first one outside
+
+module _ {S : Type 0} (env_of : S → Environment) where
+  abbrev goes_on : S → Entry → S → Type 0
+  goes_on before entry after = IsInside (env_of before) entry × (after ≡ before)
+
+  each_inside : (entries : List Entry) (before after : S) → Through goes_on before entries after → AllByRecursion (IsInside (env_of before)) entries
+  each_inside [] before after through = tt
+  each_inside (entry ∷ entries) before after through =
+      (through.1.0, subst (λ (state : S). AllByRecursion (IsInside (env_of state)) entries) through.1.1 (each_inside entries through.0 after through.2))
+
+  pub all_inside : (entries : List Entry) (before after : S) → Through goes_on before entries after → All (IsInside (env_of before)) entries
+  all_inside entries before after through = All-from_recursion (IsInside (env_of before)) entries (each_inside entries before after through)
+
+  same_state : (entries : List Entry) (before after : S) → Through goes_on before entries after → after ≡ before
+  same_state [] before after through = sym through
+  same_state (entry ∷ entries) before after through = same_state entries through.0 after through.2 ∙ through.1.1
+
+  pub any_outside : {R : Type 0} (entries : List Entry) (before : S) (stop : R) → StopsAt goes_on (λ state entry stop'. ¬ IsInside (env_of state) entry) before entries stop → Any (λ (entry : Entry). ¬ IsInside (env_of before) entry) entries
+  any_outside entries before stop at =
+      let here : Contains (at.event ∷ at.rest) at.event = (0, omega arith, refl) in
+      let found = subst (λ (of : List Entry). Contains of at.event) (sym at.splits) (Contains-append_right at.accepted (at.event ∷ at.rest) at.event here) in
+      (found.0, at.event, found.1, found.2, subst (λ (state : S). ¬ IsInside (env_of state) at.event) (same_state at.accepted before at.state at.through) at.refused)

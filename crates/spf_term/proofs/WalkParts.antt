@@ -15,26 +15,18 @@ module _ {S E : Type 0} (accepts : S → E → S → Type 0) where
 
   module _ {R : Type 0} (refuses : S → E → R → Type 0) where
     pub stop_in_front : (a b : List E) (before : S) (stop : R) → StopsAt accepts refuses before a stop → StopsAt accepts refuses before (a ++ b) stop
-    stop_in_front a b before stop at = record {
-      accepted = at.accepted;
-      event = at.event;
-      rest = at.rest ++ b;
-      splits = ap (λ (events : List E). events ++ b) at.splits ∙ append_assoc at.accepted (at.event ∷ at.rest) b;
-      state = at.state;
-      through = at.through;
-      refused = at.refused;
-    }
+    stop_in_front a b before stop at =
+        let splits = ap (λ (events : List E). events ++ b) at.splits ∙ append_assoc at.accepted (at.event ∷ at.rest) b in
+        record { accepted = at.accepted; event = at.event; rest = at.rest ++ b; splits = splits; state = at.state; through = at.through; refused = at.refused }
 
     pub stop_behind : (a b : List E) (before between : S) (stop : R) → Through accepts before a between → StopsAt accepts refuses between b stop → StopsAt accepts refuses before (a ++ b) stop
-    stop_behind a b before between stop first at = record {
-      accepted = a ++ at.accepted;
-      event = at.event;
-      rest = at.rest;
-      splits = ap (λ (events : List E). a ++ events) at.splits ∙ sym (append_assoc a at.accepted (at.event ∷ at.rest));
-      state = at.state;
-      through = through_both a at.accepted before between at.state first at.through;
-      refused = at.refused;
-    }
+    stop_behind a b before between stop first at =
+        let splits = ap (λ (events : List E). a ++ events) at.splits ∙ sym (append_assoc a at.accepted (at.event ∷ at.rest)) in
+        let through = through_both a at.accepted before between at.state first at.through in
+        record { accepted = a ++ at.accepted; event = at.event; rest = at.rest; splits = splits; state = at.state; through = through; refused = at.refused }
 
-    pub stopped_walk : {A : Type 0} (events : List E) (before after : S) (result : Result A R) (stop : R) → (other : R) × (result ≡ Err other) × (other ≡ stop) → StopsAt accepts refuses before events stop → Walks accepts refuses before events result after
-    stopped_walk {A} events before after result stop known at = subst (λ (of : Result A R). Walks accepts refuses before events of after) (sym (known.1 ∙ ap Err known.2)) at
+-- a result that is this error is a walk that stopped there
+pub stopped_walk : {S E R A : Type 0} {accepts : S → E → S → Type 0} {refuses : S → E → R → Type 0} {events : List E} {before : S} {stop : R} {result : Result A R}
+    → (after : S) → (other : R) × (result ≡ Err other) × (other ≡ stop) → StopsAt accepts refuses before events stop → Walks accepts refuses before events result after
+stopped_walk {R = R} {A = A} {accepts = accepts} {refuses = refuses} {events = events} {before = before} after known at =
+    subst (λ (of : Result A R). Walks accepts refuses before events of after) (sym (known.1 ∙ ap Err known.2)) at

@@ -3,7 +3,7 @@ use Rattle.std.specs.Prelude.{ℕ, ◌+◌, ◌%◌, ◌^◌, ℤ, List, [], ◌
 use Rattle.std.specs.Int.{w64}
 use Rattle.std.specs.List.{AllByRecursion}
 use Rattle.spf_term.specs.Environment.{Environment}
-use Rattle.spf_term.specs.Value.{Entry, applications, atom_applications, value}
+use Rattle.spf_term.specs.Value.{Entry, atom_applications, value}
 use Rattle.spf_term.specs.declared.term.Atom.{Atom, Var, Param, App}
 use Rattle.spf_term.specs.declared.term.Term.{Term, Term', Row_of-Mono, end_of-Mono, more_of-Mono}
 

@@ -1,5 +1,5 @@
 -- The value of a term, and the entries of tables that are read for it.
-use Rattle.std.specs.Prelude.{ℕ, ◌+◌, ◌<◌, ℤ, pos, negsuc, ◌+ℤ◌, ◌*ℤ◌, ◌≤ℤ◌, ◌<ℤ◌, List, [], ◌∷◌, ◌++◌, length, All, slice_index_or, FitsSigned, Option, None, Some, ◌≡◌}
+use Rattle.std.specs.Prelude.{ℕ, ◌+◌, ℤ, pos, negsuc, ◌+ℤ◌, ◌*ℤ◌, ◌≤ℤ◌, ◌<ℤ◌, List, [], ◌∷◌, ◌++◌, length, All, slice_index_or, FitsSigned, Option, None, Some, ◌≡◌}
 use Rattle.std.specs.Int.{w64}
 use Rattle.std.specs.List.{Any}
 use Rattle.spf_term.specs.Environment.{Environment}

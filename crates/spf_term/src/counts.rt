@@ -5,6 +5,7 @@ ghost use Rattle.spf_term.specs.Value.{applications, atom_applications};
 
 use crate::term::{Atom, Term};
 
+/// The application itself, and those of its argument.
 #[cycle(applications)]
 fn atom_applications(atom: &Atom) -> u32
     requires { atom_applications atom.now < 2 ^ 32 }

@@ -32,6 +32,7 @@ pub(crate) fn number_at(numbers: &[i64], place: i64) -> i64
 }
 
 impl Env {
+    /// The table with this number, and an empty one where it isn't there.
     pub(crate) fn table(&self, number: u32) -> &[i64]
         ensures { result.now ≡ table_at self.now number }
     {

@@ -31,6 +31,7 @@ pub struct Walked {
     pub next: u32,
 }
 
+/// What a monomial multiplies: an argument is walked before the entry at it is told.
 #[cycle(walk)]
 fn walk_atom<R: Reader>(
     env: &Env,
@@ -64,6 +65,7 @@ fn walk_atom<R: Reader>(
     }
 }
 
+/// As `walk`, for any value and any number of applications: the value wraps, and the numbers go on from 0 behind the last.
 #[cycle(walk)]
 pub(crate) fn walk_term<R: Reader>(
     env: &Env,
