@@ -1,1 +1,2 @@
+mod SmallTerms
 mod SoundJobs

@@ -16,6 +16,8 @@ mod kernel;
 #[cfg(test)]
 mod lex;
 #[cfg(test)]
+mod look_ahead;
+#[cfg(test)]
 mod script;
 #[cfg(test)]
 mod space;
