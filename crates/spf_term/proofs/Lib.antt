@@ -1,4 +1,5 @@
 pub mod Monos
+mod Outside
 pub mod Progress
-pub mod SameReads
+mod Sizes
 pub mod WalkParts

@@ -1,11 +1,10 @@
--- Terms, told of their monomials as lists.
+-- Terms, said of their monomials as lists.
 use Rattle.std.proofs.Common.{◌≡◌, ℕ, ◌+◌, ℤ, pos, ◌+ℤ◌, ◌*ℤ◌, List, [], ◌∷◌, ◌++◌, refl, ap, sym, ◌∙◌, ◌<◌, length, get_or, drop}
 use Rattle.std.proofs.lemmas.List.{drop_more}
 use Rattle.spf_term.specs.declared.term.Term.{Term, Term', out-Term, Row_of-Mono, end_of-Mono, more_of-Mono, items-the_row-Mono, items_shown-the_row-Mono-0}
 use Rattle.spf_term.specs.declared.term.Mono.{Mono}
 use Rattle.spf_term.specs.Environment.{Environment}
-use Rattle.spf_term.specs.Value.{Entry, applications, sum_applications, atom_applications, value, sum_value, atom_value}
-use Rattle.spf_term.specs.Told.{later, told, sum_told, atom_told}
+use Rattle.spf_term.specs.Value.{Entry, applications, sum_applications, atom_applications, value, sum_value, atom_value, entries, sum_entries, atom_entries}
 
 abbrev pub list_applications : List Mono → ℕ
 list_applications [] = 0
@@ -35,14 +34,14 @@ module _ (env : Environment) (variables : List ℤ) where
   unfolding out-Term denote.Hole.Carrier.out
   value_is (Term' shape monos constant) = ap (λ sum. sum +ℤ constant) (row_value monos ∙ ap list_value (sym (items_shown-the_row-Mono-0 shape monos)))
 
-  abbrev pub list_told : ℕ → List Mono → List Entry
-  list_told site [] = []
-  list_told site (mono ∷ monos) = atom_told env variables site mono.atom ++ list_told (later site (atom_applications mono.atom)) monos
+  abbrev pub list_entries : ℕ → List Mono → List Entry
+  list_entries site [] = []
+  list_entries site (mono ∷ monos) = atom_entries env variables site mono.atom ++ list_entries (site + atom_applications mono.atom) monos
 
-  row_told : {n : _} (site : ℕ) (row : Row_of-Mono n) → sum_told env variables site row ≡ list_told site (items-the_row-Mono n row)
-  row_told site end_of-Mono = refl
-  row_told site (more_of-Mono coef atom others) = ap (λ more. atom_told env variables site atom ++ more) (row_told (later site (atom_applications atom)) others)
+  row_entries : {n : _} (site : ℕ) (row : Row_of-Mono n) → sum_entries env variables site row ≡ list_entries site (items-the_row-Mono n row)
+  row_entries site end_of-Mono = refl
+  row_entries site (more_of-Mono coef atom others) = ap (λ more. atom_entries env variables site atom ++ more) (row_entries (site + atom_applications atom) others)
 
-  pub told_are : (site : ℕ) (term : Term) → told env variables site term ≡ list_told site (out-Term term).monos
+  pub entries_are : (site : ℕ) (term : Term) → entries env variables site term ≡ list_entries site (out-Term term).monos
   unfolding out-Term denote.Hole.Carrier.out
-  told_are site (Term' shape monos constant) = row_told site monos ∙ ap (list_told site) (sym (items_shown-the_row-Mono-0 shape monos))
+  entries_are site (Term' shape monos constant) = row_entries site monos ∙ ap (list_entries site) (sym (items_shown-the_row-Mono-0 shape monos))

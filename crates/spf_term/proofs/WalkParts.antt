@@ -1,6 +1,15 @@
 -- Walks through one list of events behind another.
-use Rattle.std.proofs.Common.{◌≡◌, List, [], ◌∷◌, ◌++◌, refl, ap, sym, ◌∙◌, subst, append_assoc, Result, Err}
+use Rattle.std.proofs.Common.{◌≡◌, List, [], ◌∷◌, ◌++◌, refl, ap, sym, ◌∙◌, subst, append_assoc, ◌+◌, length, length-append, arith, Result, Err}
+use Rattle.std.specs.List.{All}
+use Rattle.std.proofs.lemmas.List.{get_or_append_left, get_or-append-add}
 use Rattle.spf_term.specs.Walk.{Through, StopsAt, Walks}
+
+module _ {E : Type 0} (P : E → Type 0) (first second : List E) (all : All P (first ++ second)) where
+  pub all_first : All P first
+  all_first k d inside = subst P (get_or_append_left first second d k inside) (all k d (omega (arith, length-append first second, inside)))
+
+  pub all_second : All P second
+  all_second k d inside = subst P (get_or-append-add first second k d) (all (length first + k) d (omega (arith, length-append first second, inside)))
 
 module _ {S E : Type 0} (accepts : S → E → S → Type 0) where
   pub through_both : (a b : List E) (before between after : S) → Through accepts before a between → Through accepts between b after → Through accepts before (a ++ b) after

@@ -1,4 +1,4 @@
+pub mod Bounded
 pub mod Environment
-pub mod Told
 pub mod Value
 pub mod Walk

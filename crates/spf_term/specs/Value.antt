@@ -1,5 +1,5 @@
 -- The value of a term, and the entries of tables that are read for it.
-use Rattle.std.specs.Prelude.{ℕ, ◌+◌, ℤ, pos, negsuc, ◌+ℤ◌, ◌*ℤ◌, ◌≤ℤ◌, ◌<ℤ◌, List, [], ◌∷◌, ◌++◌, length, All, slice_index_or, FitsSigned, Option, None, Some, ◌≡◌}
+use Rattle.std.specs.Prelude.{ℕ, ◌≤◌, ◌+◌, ℤ, pos, negsuc, ◌+ℤ◌, ◌*ℤ◌, ◌≤ℤ◌, ◌<ℤ◌, List, [], ◌∷◌, ◌++◌, length, All, slice_index_or, FitsSigned, Option, None, Some, ◌≡◌}
 use Rattle.std.specs.Int.{w64}
 use Rattle.std.specs.List.{Any}
 use Rattle.spf_term.specs.Environment.{Environment}
@@ -25,6 +25,10 @@ table_at env number = slice_index_or env.tables number []
 pub record IsInside (env : Environment) (entry : Entry) : Type 0 where
   pub low : pos 0 ≤ℤ entry.place
   pub high : entry.place <ℤ pos (length (table_at env entry.table))
+
+-- the place is a number of 64 bits
+abbrev pub HasSmallPlace : Entry → Type 0
+HasSmallPlace entry = FitsSigned w64 entry.place
 
 -- how many applications of tables a term has, nested ones counted
 abbrev mutual
@@ -70,10 +74,11 @@ module _ (env : Environment) (variables : List ℤ) where
     atom_entries site (Param number) = []
     atom_entries site (App fun arg) = entries (site + 1) arg ++ record { site = site; table = fun; place = value arg } ∷ []
 
-  -- the value and each place that is read are numbers of 64 bits
+  -- the value and each place that is read are numbers of 64 bits, and the term isn't long
   pub record IsSmall (term : Term) : Type 0 where
     pub value : FitsSigned w64 (value term)
-    pub places : All (λ (entry : Entry). FitsSigned w64 entry.place) (entries 0 term)
+    pub places : (site : ℕ) → All HasSmallPlace (entries site term)
+    pub few : applications term ≤ 16384
 
   -- the value, where each entry that is read is inside its table; none, where some entry isn't
   abbrev pub IsAnswer : Term → Option ℤ → Type 0

@@ -10,12 +10,14 @@
 //! and recurses as deep as the term nests.
 #![tactic(auto)]
 
+mod bounded;
 mod counts;
 mod env;
 mod term;
 mod values;
 mod walks;
 
+pub use bounded::bounded_terms_are_small;
 pub use counts::applications;
 pub use env::Env;
 pub use term::{Atom, Mono, Term};

@@ -4,7 +4,7 @@ ghost use Rattle.spf_term.specs.Value.{IsAnswer, IsSmall};
 
 use crate::env::Env;
 use crate::term::Term;
-use crate::walks::{Reader, walk_term};
+use crate::walks::{Reader, walk};
 
 /// Stops at the first entry that is outside its table.
 #[derive(Drop)]
@@ -40,7 +40,7 @@ pub fn value(term: &Term, env: &Env, variables: &[i64]) -> Option<i64>
     ensures { IsAnswer env.now variables.now term.now result }
 {
     let mut inside = Inside { env };
-    match walk_term(env, variables, term, 0, &mut inside) {
+    match walk(env, variables, term, 0, &mut inside) {
         Ok(walked) => Some(walked.value),
         Err(Outside) => None,
     }

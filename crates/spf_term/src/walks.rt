@@ -1,9 +1,8 @@
 //! One walk over terms: their value, and each entry that is read for it.
 
-ghost use Rattle.std.specs.Prelude.{◌≡◌, ℕ, ◌+◌, ◌<◌, ◌^◌, IfOk, MatchResult};
+ghost use Rattle.std.specs.Prelude.{◌≡◌, ℕ, ◌+◌, ◌<◌, ◌^◌, All, IfOk, MatchResult};
 ghost use Rattle.spf_base.specs.Wrap.{wrap};
-ghost use Rattle.spf_term.specs.Value.{Entry, IsSmall, applications, atom_applications, atom_value, entries, value};
-ghost use Rattle.spf_term.specs.Told.{AreSmall, atom_told, later, told};
+ghost use Rattle.spf_term.specs.Value.{Entry, HasSmallPlace, IsSmall, applications, atom_applications, atom_entries, atom_value, entries, value};
 ghost use Rattle.spf_term.specs.Walk.{Walks};
 
 use crate::env::{Env, number_at};
@@ -40,10 +39,11 @@ fn walk_atom<R: Reader>(
     site: u32,
     reader: &mut R,
 ) -> Result<Walked, R::Stop>
-    requires { AreSmall (atom_told env.now variables.now site atom.now) }
-    ensures walks { Walks R.accepts R.refuses reader.old (atom_told env.now variables.now site atom.now) result reader.new }
+    requires small { All HasSmallPlace (atom_entries env.now variables.now site atom.now) }
+    requires numbered { site + atom_applications atom.now < 2 ^ 32 }
+    ensures walks { Walks R.accepts R.refuses reader.old (atom_entries env.now variables.now site atom.now) result reader.new }
     ensures value { IfOk result (λ walked. walked.value ≡ atom_value env.now variables.now atom.now) }
-    ensures next { IfOk result (λ walked. walked.next ≡ later site (atom_applications atom.now)) }
+    ensures next { IfOk result (λ walked. walked.next ≡ site + atom_applications atom.now) }
 {
     match atom {
         Atom::Var(number) => Ok(Walked {
@@ -55,7 +55,7 @@ fn walk_atom<R: Reader>(
             next: site,
         }),
         Atom::App { fun, arg } => {
-            let walked = walk_term(env, variables, arg, site.wrapping_add(1), reader)?;
+            let walked = walk_term(env, variables, arg, site + 1, reader)?;
             reader.entry(site, *fun, walked.value)?;
             Ok(Walked {
                 value: number_at(env.table(*fun), walked.value),
@@ -65,7 +65,7 @@ fn walk_atom<R: Reader>(
     }
 }
 
-/// As `walk`, for any value and any number of applications: the value wraps, and the numbers go on from 0 behind the last.
+/// As `walk`, for any value, which wraps.
 #[cycle(walk)]
 pub(crate) fn walk_term<R: Reader>(
     env: &Env,
@@ -74,10 +74,11 @@ pub(crate) fn walk_term<R: Reader>(
     site: u32,
     reader: &mut R,
 ) -> Result<Walked, R::Stop>
-    requires { AreSmall (told env.now variables.now site term.now) }
-    ensures walks { Walks R.accepts R.refuses reader.old (told env.now variables.now site term.now) result reader.new }
+    requires small { All HasSmallPlace (entries env.now variables.now site term.now) }
+    requires numbered { site + applications term.now < 2 ^ 32 }
+    ensures walks { Walks R.accepts R.refuses reader.old (entries env.now variables.now site term.now) result reader.new }
     ensures value { IfOk result (λ walked. walked.value ≡ wrap (value env.now variables.now term.now)) }
-    ensures next { IfOk result (λ walked. walked.next ≡ later site (applications term.now)) }
+    ensures next { IfOk result (λ walked. walked.next ≡ site + applications term.now) }
 {
     let mut sum = term.constant;
     let mut next = site;
