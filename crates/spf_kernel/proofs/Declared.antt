@@ -5,15 +5,12 @@ use Rattle.std.proofs.lemmas.Slice.Eq.{bytes_eq-Decides}
 use Rattle.std.specs.List.{list_any}
 use Rattle.std.specs.Str.{bytes_eq}
 use Rattle.indexmap.specs.IndexSet.{insert_key}
-use Rattle.spf_lex.specs.declared.cursor.Token.{Token}
 use Rattle.spf_kernel.specs.declared.before.Before.{Before}
-use Rattle.spf_kernel.specs.declared.note.Note.{Note}
-use Rattle.spf_kernel.specs.declared.note.Says.{Says}
-use Rattle.spf_kernel.specs.Rules.{is_param, is_table, is_data, is_loop, tokens_that, text_of, declares}
-use Rattle.spf_kernel.specs.Before.{once, names_that, before_of}
-use Rattle.spf_kernel.proofs.NameLists.{list_any-map}
+use Rattle.spf_kernel.specs.Before.{once, before_of}
+use Rattle.spf_kernel.specs.Facts.{Fact}
+use Rattle.spf_kernel.specs.Rules.{is_param, is_table, is_data, is_loop, declares, names_that}
 
-or_false : (b : Bool) → b ≡ b || false
+pub or_false : (b : Bool) → b ≡ b || false
 or_false true = refl
 or_false false = refl
 
@@ -48,22 +45,18 @@ module _ (name : List ℕ) where
   unfolding once
   among_once names = folded [] names
 
-module _ (texts : List (List ℕ)) where
-  declared_once : (test : Says → Bool) (notes : List Note) (name : Token) → list_any (bytes_eq (text_of texts name)) (once (names_that texts test notes)) ≡ declares texts test notes name
-  declared_once test notes name = among_once (text_of texts name) (names_that texts test notes) ∙ list_any-map (text_of texts) (bytes_eq (text_of texts name)) (tokens_that test notes)
+-- what the sets say of a name
+pub record IsKnown (facts : List Fact) (name : List ℕ) (before : Before) : Type 0 where
+  pub params : list_any (bytes_eq name) before.params ≡ declares is_param facts name
+  pub tables : list_any (bytes_eq name) before.tables ≡ declares is_table facts name
+  pub data_arrays : list_any (bytes_eq name) before.data_arrays ≡ declares is_data facts name
+  pub loops : list_any (bytes_eq name) before.loops ≡ declares is_loop facts name
 
-  -- what the sets say of a name
-  pub record IsKnown (notes : List Note) (name : Token) (before : Before) : Type 0 where
-    pub params : list_any (bytes_eq (text_of texts name)) before.params ≡ declares texts is_param notes name
-    pub tables : list_any (bytes_eq (text_of texts name)) before.tables ≡ declares texts is_table notes name
-    pub data_arrays : list_any (bytes_eq (text_of texts name)) before.data_arrays ≡ declares texts is_data notes name
-    pub loops : list_any (bytes_eq (text_of texts name)) before.loops ≡ declares texts is_loop notes name
-
-  pub is_known : (notes : List Note) (name : Token) (before : Before) → before ≡ before_of texts notes → IsKnown notes name before
-  unfolding before_of
-  is_known notes name before e = record {
-    params = ap (λ (b : Before). list_any (bytes_eq (text_of texts name)) b.params) e ∙ declared_once is_param notes name;
-    tables = ap (λ (b : Before). list_any (bytes_eq (text_of texts name)) b.tables) e ∙ declared_once is_table notes name;
-    data_arrays = ap (λ (b : Before). list_any (bytes_eq (text_of texts name)) b.data_arrays) e ∙ declared_once is_data notes name;
-    loops = ap (λ (b : Before). list_any (bytes_eq (text_of texts name)) b.loops) e ∙ declared_once is_loop notes name;
-  }
+pub known_from : (facts : List Fact) (name : List ℕ) (before : Before) → before ≡ before_of facts → IsKnown facts name before
+unfolding before_of
+known_from facts name before e = record {
+  params = ap (λ (b : Before). list_any (bytes_eq name) b.params) e ∙ among_once name (names_that is_param facts);
+  tables = ap (λ (b : Before). list_any (bytes_eq name) b.tables) e ∙ among_once name (names_that is_table facts);
+  data_arrays = ap (λ (b : Before). list_any (bytes_eq name) b.data_arrays) e ∙ among_once name (names_that is_data facts);
+  loops = ap (λ (b : Before). list_any (bytes_eq name) b.loops) e ∙ among_once name (names_that is_loop facts);
+}

@@ -4,8 +4,8 @@ use Rattle.spf_lex.specs.Derivation.{made}
 use Rattle.spf_lex.specs.Language.{Lexed}
 use Rattle.spf_lex.specs.Production.{begins}
 use Rattle.spf_lex.specs.declared.kind.Kind.{Kind}
-use Rattle.spf_kernel.specs.Productions.{atom, fact, ix, nested, number, subscripted, value}
 use Rattle.spf_kernel.specs.declared.raw.RawFactor.TheVariants as factor_is
+use Rattle.spf_kernel.specs.Productions.{atom, fact, ix, nested, number, subscripted, value}
 
 pub atom_deep : (depth : ℕ) (tokens : List (Lexed Kind)) → 0 < depth → (atom depth).read tokens ≡ (subscripted (ix (depth - 1))).read tokens
 unfolding atom ix

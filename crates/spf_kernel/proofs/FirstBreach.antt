@@ -2,12 +2,11 @@
 use Rattle.std.proofs.Common.{◌≡◌, ℕ, ◌+◌, ◌<◌, ◌≤◌, Bool, true, false, List, [], ◌∷◌, ◌++◌, length, map, slice_get, Option, None, Some, refl, ap, sym, ◌∙◌, subst, position, nat_lt, ◌⊎◌, inl, inr, ⊎_elim, append_assoc, length-append, arith}
 use Rattle.std.proofs.lemmas.Bool.{ltb-true, ltb-false}
 use Rattle.std.specs.Option.{option_map}
-use Rattle.spf_lex.specs.declared.cursor.Token.{Token}
 use Rattle.spf_kernel.specs.declared.note.Note.{Note}
-use Rattle.spf_kernel.specs.declared.note.Says.{Says}
 use Rattle.spf_kernel.specs.declared.rules.Breach.{Breach}
-use Rattle.spf_kernel.specs.Rules.{rules, has_capital, Breaks, IsFirstBreach, IsUnbroken}
 use Rattle.spf_kernel.specs.Checked.{least_rule, Precedes, IsFirst}
+use Rattle.spf_kernel.specs.Facts.{Fact, fact_of, facts_of}
+use Rattle.spf_kernel.specs.Rules.{rules, has_capital, Breaks, IsFirstBreach, IsUnbroken}
 use Rattle.spf_kernel.proofs.Places.{position-map, none_passes, first_passes}
 
 -- a split of a list with one element more is at that element, or a split of the list
@@ -40,14 +39,28 @@ comes_behind a b behind = (by (nat_lt a.place b.place) refl, λ same. at_one_pla
   at_one_place same true e = absurd (behind (inr (same, ltb-true a.rule b.rule e)))
   at_one_place same false e = ltb-false a.rule b.rule e
 
+-- the least rule that the fact breaks is the least that it breaks
+pub least_rule_is : (before : List Fact) (fact : Fact) (broken : List Bool) → broken ≡ map (λ (test : List Fact → Fact → Bool). test before fact) rules
+    → option_map (λ (n : ℕ). n + 1) (position (λ (holds : Bool). holds) broken) ≡ least_rule before fact
+unfolding least_rule
+least_rule_is before fact broken e =
+    ap (λ (bs : List Bool). option_map (λ (n : ℕ). n + 1) (position (λ (holds : Bool). holds) bs)) e
+    ∙ ap (option_map (λ (n : ℕ). n + 1)) (position-map (λ (test : List Fact → Fact → Bool). test before fact) rules)
+
 module _ (texts : List (List ℕ)) where
   -- the note breaks the rule, behind those before
   pub record Broken (before : List Note) (note : Note) (rule : ℕ) : Type 0 where
-    pub test : List Note → Token → Says → Bool
-    pub number : (n : ℕ) × (rule ≡ n + 1) × (slice_get (rules texts) n ≡ Some test)
-    pub broken : test before note.token note.says ≡ true
+    pub test : List Fact → Fact → Bool
+    pub number : (n : ℕ) × (rule ≡ n + 1) × (slice_get rules n ≡ Some test)
+    pub broken : test (facts_of texts before) (fact_of texts note) ≡ true
 
   module _ (notes : List Note) (note : Note) where
+    abbrev seen : List Fact
+    seen = facts_of texts notes
+
+    abbrev fact : Fact
+    fact = fact_of texts note
+
     pub breaks_here : (rule : ℕ) → Broken notes note rule → Breaks texts (notes ++ note ∷ []) note.token.at rule
     breaks_here rule b = record { before = notes; note = note; after = []; splits = refl; there = refl; test = b.test; number = b.number; broken = b.broken }
 
@@ -67,30 +80,22 @@ module _ (texts : List (List ℕ)) where
     breaks_either place rule b = by (splits notes note b.before b.note b.after b.splits)
       where
         by : Splits notes note b.before b.note → Breaks texts notes place rule ⊎ ((place ≡ note.token.at) × Broken notes note rule)
-        by (last p q) = inr (sym b.there ∙ ap (λ (n : Note). n.token.at) q, record { test = b.test; number = b.number; broken = cc (p, q, b.broken) })
+        by (last p q) = inr (sym b.there ∙ ap (λ (n : Note). n.token.at) q, record { test = b.test; number = b.number; broken = (λ i. b.test (facts_of texts (sym p i)) (fact_of texts (sym q i))) ∙ b.broken })
         by (inside after p) = inl (record { before = b.before; note = b.note; after = after; splits = p; there = b.there; test = b.test; number = b.number; broken = b.broken })
 
-    -- the least rule that the note breaks is the least that it breaks
-    pub least_rule_is : (broken : List Bool) → broken ≡ map (λ (test : List Note → Token → Says → Bool). test notes note.token note.says) (rules texts)
-        → option_map (λ (n : ℕ). n + 1) (position (λ (holds : Bool). holds) broken) ≡ least_rule texts notes note
+    none_broken : least_rule seen fact ≡ None → (rule : ℕ) → ¬ Broken notes note rule
     unfolding least_rule
-    least_rule_is broken e =
-        ap (λ (bs : List Bool). option_map (λ (n : ℕ). n + 1) (position (λ (holds : Bool). holds) bs)) e
-        ∙ ap (option_map (λ (n : ℕ). n + 1)) (position-map (λ (test : List Note → Token → Says → Bool). test notes note.token note.says) (rules texts))
+    none_broken none rule b = none_passes (λ (test : List Fact → Fact → Bool). test seen fact) rules none b.number.0 b.test b.number.2 b.broken
 
-    none_broken : least_rule texts notes note ≡ None → (rule : ℕ) → ¬ Broken notes note rule
-    unfolding least_rule
-    none_broken none rule b = none_passes (λ (test : List Note → Token → Says → Bool). test notes note.token note.says) (rules texts) none b.number.0 b.test b.number.2 b.broken
-
-    least_broken : (least : ℕ) → least_rule texts notes note ≡ Some least → Broken notes note least × ((rule : ℕ) → Broken notes note rule → least ≤ rule)
+    least_broken : (least : ℕ) → least_rule seen fact ≡ Some least → Broken notes note least × ((rule : ℕ) → Broken notes note rule → least ≤ rule)
     unfolding least_rule
     least_broken least some =
-        let first = first_passes (λ (test : List Note → Token → Says → Bool). test notes note.token note.says) (rules texts) (has_capital texts) least some in (
+        let first = first_passes (λ (test : List Fact → Fact → Bool). test seen fact) rules has_capital least some in (
           record { test = first.element; number = (first.place, first.numbers, first.there); broken = first.passes },
           λ rule b. omega (arith, first.numbers, b.number.1, first.least b.number.0 b.test b.number.2 b.broken),
         )
 
-    pub still_first : (best : Option Breach) → IsFirst texts notes best → least_rule texts notes note ≡ None → IsFirst texts (notes ++ note ∷ []) best
+    pub still_first : (best : Option Breach) → IsFirst texts notes best → least_rule seen fact ≡ None → IsFirst texts (notes ++ note ∷ []) best
     still_first None unbroken none = λ place rule b. ⊎_elim (unbroken place rule) (λ here. none_broken none rule here.1) (breaks_either place rule b)
     still_first (Some best) first none = record {
       breaks = breaks_still best.place best.rule first.breaks;
@@ -98,7 +103,7 @@ module _ (texts : List (List ℕ)) where
       least_rule = λ rule b. ⊎_elim (first.least_rule rule) (λ here. absurd (none_broken none rule here.1)) (breaks_either best.place rule b);
     }
 
-    pub first_one : IsUnbroken texts notes → (least : ℕ) → least_rule texts notes note ≡ Some least → IsFirstBreach texts (notes ++ note ∷ []) note.token.at least
+    pub first_one : IsUnbroken texts notes → (least : ℕ) → least_rule seen fact ≡ Some least → IsFirstBreach texts (notes ++ note ∷ []) note.token.at least
     first_one unbroken least some =
         let here = least_broken least some in
         record {
@@ -108,7 +113,7 @@ module _ (texts : List (List ℕ)) where
         }
 
     -- the breach of the note is before the earlier one
-    new_first : (best : Breach) → IsFirstBreach texts notes best.place best.rule → (least : ℕ) → least_rule texts notes note ≡ Some least
+    new_first : (best : Breach) → IsFirstBreach texts notes best.place best.rule → (least : ℕ) → least_rule seen fact ≡ Some least
         → (note.token.at < best.place) ⊎ ((note.token.at ≡ best.place) × (least < best.rule)) → IsFirstBreach texts (notes ++ note ∷ []) note.token.at least
     new_first best first least some before =
         let here = least_broken least some in
@@ -129,7 +134,7 @@ module _ (texts : List (List ℕ)) where
             omega (arith, same.1)
 
     -- the earlier one is not behind it
-    old_first : (best : Breach) → IsFirstBreach texts notes best.place best.rule → (least : ℕ) → least_rule texts notes note ≡ Some least
+    old_first : (best : Breach) → IsFirstBreach texts notes best.place best.rule → (least : ℕ) → least_rule seen fact ≡ Some least
         → best.place ≤ note.token.at → (note.token.at ≡ best.place → best.rule ≤ least) → IsFirstBreach texts (notes ++ note ∷ []) best.place best.rule
     old_first best first least some place_before rule_before =
         let here = least_broken least some in
@@ -139,7 +144,7 @@ module _ (texts : List (List ℕ)) where
           least_rule = λ rule b. ⊎_elim (first.least_rule rule) (λ h. omega (arith, rule_before (sym h.0), here.1 rule h.1)) (breaks_either best.place rule b);
         }
 
-    pub first_of_two : (best : Breach) → IsFirstBreach texts notes best.place best.rule → (least : ℕ) → least_rule texts notes note ≡ Some least → (c : Breach)
+    pub first_of_two : (best : Breach) → IsFirstBreach texts notes best.place best.rule → (least : ℕ) → least_rule seen fact ≡ Some least → (c : Breach)
         → ((c ≡ record { place = note.token.at; rule = least }) × Precedes (record { place = note.token.at; rule = least }) best) ⊎ ((c ≡ best) × ¬ Precedes (record { place = note.token.at; rule = least }) best)
         → IsFirstBreach texts (notes ++ note ∷ []) c.place c.rule
     first_of_two best first least some c (inl (is, before)) =

@@ -1,63 +1,77 @@
 -- A name that fits where it is used is a variable in scope, or its number is the number of a declared name.
-use Rattle.std.proofs.Common.{◌≡◌, ℕ, Bool, true, false, ◌||◌, ◌&&◌, List, Option, None, Some, refl, sym, ◌∙◌, arith}
+use Rattle.std.proofs.Common.{◌≡◌, ℕ, ◌+◌, Bool, true, false, ◌||◌, ◌&&◌, List, [], ◌∷◌, Option, None, Some, refl, sym, ap, subst, arith}
+use Rattle.std.specs.Option.{option_map, unwrap_or}
+use Rattle.std.proofs.lemmas.Slice.Eq.{bytes_eq-Decides}
 use Rattle.std.specs.Prelude.{if◌then◌else◌}
 use Rattle.std.specs.Str.{bytes_eq}
-use Rattle.spf_lex.specs.declared.cursor.Token.{Token}
-use Rattle.spf_kernel.specs.declared.note.Note.{Note}
 use Rattle.spf_kernel.specs.declared.note.Spot.{Spot}
 use Rattle.spf_kernel.specs.declared.note.Spot.TheVariants as spot_is
-use Rattle.spf_kernel.specs.declared.note.Scope.{Scope}
-use Rattle.spf_kernel.specs.Names.{Names, names_of}
-use Rattle.spf_kernel.specs.Resolved.{variable_of, param_of, table_of, data_array_of, is_data_array}
-use Rattle.spf_kernel.specs.Rules.{is_param, is_table, is_data, names_variable, takes_data, takes_table, declares, fits, text_of, tokens_that}
-use Rattle.spf_kernel.proofs.NameLists.{list_any-map}
-use Rattle.spf_kernel.proofs.NamedNumbers.{IsNumberOf, number_found, number_declared}
+use Rattle.spf_kernel.specs.Facts.{Fact}
+use Rattle.spf_kernel.specs.Names.{Names, names_of, number_of}
+use Rattle.spf_kernel.specs.Resolved.{variable_of}
+use Rattle.spf_kernel.specs.Rules.{is_param, is_table, is_data, takes_data, takes_table, declares, fits, is_in_scope}
+use Rattle.spf_kernel.proofs.Counting.{more}
+use Rattle.spf_kernel.proofs.NamedNumbers.{IsNumberOf, number_found, number_declared, one_behind}
 
-module _ (texts : List (List ℕ)) (notes : List Note) where
+-- a name of which no variable in scope has the number is none of them
+none_in_scope : (variables : List (List ℕ)) (name : List ℕ) → variable_of variables name ≡ None → is_in_scope variables name ≡ false
+none_in_scope [] name = λ none. refl
+none_in_scope (variable ∷ others) name = by (bytes_eq name variable) (variable_of others name) (none_in_scope others name) where
+  by : (b : Bool) (found : Option ℕ) → (found ≡ None → is_in_scope others name ≡ false) → (if b then Some 0 else option_map (λ n. 1 + n) found) ≡ None → b || is_in_scope others name ≡ false
+  by true found rest none = absurd cc
+  by false None rest none = rest refl
+  by false (Some number) rest none = absurd cc
+
+-- the number of a variable is that of its name
+pub variable_named : (variables : List (List ℕ)) (name : List ℕ) (number : ℕ) → variable_of variables name ≡ Some number → IsNumberOf variables name number
+variable_named [] name = λ number found. absurd cc
+variable_named (variable ∷ others) name = by (bytes_eq name variable) refl (variable_of others name) (variable_named others name) where
+  by : (b : Bool) → bytes_eq name variable ≡ b → (rest : Option ℕ) → ((number : ℕ) → rest ≡ Some number → IsNumberOf others name number) → (number : ℕ) → (if b then Some 0 else option_map (λ n. 1 + n) rest) ≡ Some number
+      → IsNumberOf (variable ∷ others) name number
+  by true same rest more number found = subst (IsNumberOf (variable ∷ others) name) (ap (λ (o : Option ℕ). unwrap_or o 0) found) (record { below = omega arith; named = sym ((bytes_eq-Decides name variable).0 same) })
+  by false same None more number found = absurd cc
+  by false same (Some n) more number found = subst (IsNumberOf (variable ∷ others) name) (ap (λ (o : Option ℕ). unwrap_or o 0) found) (one_behind variable others name n (more n refl))
+
+module _ (facts : List Fact) where
   abbrev names : Names
-  names = names_of texts notes
+  names = names_of facts
 
   -- ---- a name without brackets
 
   -- a variable of which this holds, or else a parameter
-  abbrev pub IsBare : (ℕ → Type 0) → Token → Option ℕ → Type 0
+  abbrev pub IsBare : (ℕ → Type 0) → List ℕ → Option ℕ → Type 0
   IsBare OfVariable name (Some variable) = OfVariable variable
-  IsBare OfVariable name None = IsNumberOf names.params (text_of texts name) (param_of texts names name)
+  IsBare OfVariable name None = IsNumberOf names.params name (number_of names.params name)
 
-  pub bare_fits : (OfVariable : ℕ → Type 0) (spot : Spot) (scope : Scope) (name : Token) → fits texts notes name false spot scope ≡ true
-      → ((variable : ℕ) → variable_of texts scope name ≡ Some variable → OfVariable variable) → IsBare OfVariable name (variable_of texts scope name)
-  bare_fits OfVariable spot scope name fit =
-      by (names_variable texts scope.outer name) (names_variable texts scope.inner name) (declares texts is_param notes name) fit (number_declared texts is_param notes name) where
-        number_from : Bool → Bool → Option ℕ
-        number_from outer inner = if outer then Some 0 else (if inner then Some 1 else None)
+  pub bare_fits : (OfVariable : ℕ → Type 0) (spot : Spot) (variables : List (List ℕ)) (name : List ℕ) → fits facts variables name false spot ≡ true
+      → ((variable : ℕ) → variable_of variables name ≡ Some variable → OfVariable variable) → IsBare OfVariable name (variable_of variables name)
+  bare_fits OfVariable spot variables name fit each = by (variable_of variables name) (none_in_scope variables name) each where
+    other : (scope param : Bool) → scope || param ≡ true → scope ≡ false → param ≡ true
+    other scope param fit none = grind arith
 
-        by : (outer inner param : Bool) → (outer || inner) || param ≡ true → (param ≡ true → IsBare OfVariable name None)
-            → ((variable : ℕ) → number_from outer inner ≡ Some variable → OfVariable variable) → IsBare OfVariable name (number_from outer inner)
-        by true inner param fit other variables = variables 0 refl
-        by false true param fit other variables = variables 1 refl
-        by false false param fit other variables = other fit
+    by : (found : Option ℕ) → (found ≡ None → is_in_scope variables name ≡ false) → ((variable : ℕ) → found ≡ Some variable → OfVariable variable) → IsBare OfVariable name found
+    by (Some variable) none each = each variable refl
+    by None none each = number_declared is_param facts name (other (is_in_scope variables name) (declares is_param facts name) fit (none refl))
 
   -- ---- a name with brackets
 
   -- where no data array may stand it is a table
-  pub table_fits : (spot : Spot) → takes_data texts spot ≡ false → (scope : Scope) (name : Token) → fits texts notes name true spot scope ≡ true → IsNumberOf names.tables (text_of texts name) (table_of texts names name)
-  table_fits spot no_data scope name fit =
-      number_declared texts is_table notes name (by (takes_table texts spot) (declares texts is_table notes name) (takes_data texts spot) (declares texts is_data notes name) no_data fit) where
+  pub table_fits : (spot : Spot) → takes_data spot ≡ false → (variables : List (List ℕ)) (name : List ℕ) → fits facts variables name true spot ≡ true → IsNumberOf names.tables name (number_of names.tables name)
+  table_fits spot no_data variables name fit =
+      number_declared is_table facts name (by (takes_table spot) (declares is_table facts name) (takes_data spot) (declares is_data facts name) no_data fit) where
         by : (takes_t t takes_d d : Bool) → takes_d ≡ false → (takes_t && t) || (takes_d && d) ≡ true → t ≡ true
         by takes_t t takes_d d none fit = grind arith
 
   -- a data array, if it is declared as one, or else a table
-  abbrev pub IsEntry : Token → Bool → Type 0
-  IsEntry name true = IsNumberOf names.data_arrays (text_of texts name) (data_array_of texts names name)
-  IsEntry name false = IsNumberOf names.tables (text_of texts name) (table_of texts names name)
+  abbrev pub IsEntry : List ℕ → Bool → Type 0
+  IsEntry name true = IsNumberOf names.data_arrays name (number_of names.data_arrays name)
+  IsEntry name false = IsNumberOf names.tables name (number_of names.tables name)
 
-  pub entry_fits : (scope : Scope) (name : Token) → fits texts notes name true spot_is.Factor scope ≡ true → IsEntry name (is_data_array texts names name)
-  entry_fits scope name fit = by (is_data_array texts names name) refl where
+  pub entry_fits : (variables : List (List ℕ)) (name : List ℕ) → fits facts variables name true spot_is.Factor ≡ true → IsEntry name (declares is_data facts name)
+  entry_fits variables name fit = by (declares is_data facts name) refl where
     left : (t d : Bool) → t || d ≡ true → d ≡ false → t ≡ true
     left t d fit none = grind arith
 
-    by : (b : Bool) → is_data_array texts names name ≡ b → IsEntry name b
-    by true is = number_found names.data_arrays (text_of texts name) is
-    by false is =
-        let none : declares texts is_data notes name ≡ false = sym (list_any-map (text_of texts) (bytes_eq (text_of texts name)) (tokens_that is_data notes)) ∙ is in
-        number_declared texts is_table notes name (left (declares texts is_table notes name) (declares texts is_data notes name) fit none)
+    by : (b : Bool) → declares is_data facts name ≡ b → IsEntry name b
+    by true is = number_found names.data_arrays name is
+    by false is = number_declared is_table facts name (left (declares is_table facts name) (declares is_data facts name) fit is)

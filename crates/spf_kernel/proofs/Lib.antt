@@ -1,5 +1,4 @@
 pub mod Adding
-pub mod Alike
 pub mod Clear
 pub mod Counting
 pub mod Declared
@@ -27,14 +26,10 @@ pub mod Places
 pub mod PrintEquations
 pub mod PrintedConstants
 pub mod PrintedParses
-pub mod RulesAgain
 pub mod Signs
 pub mod SiteCounts
 pub mod TermEquations
 pub mod TokenLeaves
-pub mod Told
-pub mod ToldNames
-pub mod ToldRules
 pub mod Unbroken
 pub mod ValueEquations
 pub mod Written
@@ -45,7 +40,6 @@ pub mod WrittenLoops
 pub mod WrittenMonos
 pub mod WrittenNames
 pub mod WrittenParts
-pub mod WrittenScopes
 pub mod WrittenSigns
 pub mod WrittenStatements
 pub mod WrittenSums

@@ -3,21 +3,19 @@ use Rattle.std.proofs.Common.{◌≡◌, ℕ, suc, ◌+◌, ◌<◌, Bool, true,
 use Rattle.std.specs.List.{list_any}
 use Rattle.std.specs.Str.{bytes_eq}
 use Rattle.std.proofs.lemmas.Slice.Eq.{bytes_eq-Decides}
-use Rattle.spf_lex.specs.declared.cursor.Token.{Token}
-use Rattle.spf_kernel.specs.declared.note.Note.{Note}
 use Rattle.spf_kernel.specs.declared.note.Says.{Says}
+use Rattle.spf_kernel.specs.Facts.{Fact}
 use Rattle.spf_kernel.specs.Names.{number_of}
-use Rattle.spf_kernel.specs.Before.{names_that}
-use Rattle.spf_kernel.specs.Rules.{text_of, tokens_that, declares}
+use Rattle.spf_kernel.specs.Rules.{declares, names_that}
 use Rattle.spf_kernel.specs.TreeNames.{name_at}
-use Rattle.spf_kernel.proofs.NameLists.{list_any-map}
+use Rattle.spf_kernel.proofs.Counting.{more}
 
 -- the number of a name among others
 pub record IsNumberOf (names : List (List ℕ)) (name : List ℕ) (number : ℕ) : Type 0 where
   pub below : number < length names
   pub named : name_at names number ≡ name
 
-one_behind : (first : List ℕ) (names : List (List ℕ)) (name : List ℕ) (number : ℕ) → IsNumberOf names name number → IsNumberOf (first ∷ names) name (1 + number)
+pub one_behind : (first : List ℕ) (names : List (List ℕ)) (name : List ℕ) (number : ℕ) → IsNumberOf names name number → IsNumberOf (first ∷ names) name (1 + number)
 one_behind first names name number is =
     let next : 1 + number ≡ suc number = omega arith in
     record { below = omega (arith, is.below); named = ap (name_at (first ∷ names)) next ∙ is.named }
@@ -30,12 +28,6 @@ number_found (first ∷ names) name found = by (bytes_eq name first) refl (numbe
   by true same more found = record { below = omega arith; named = sym ((bytes_eq-Decides name first).0 same) }
   by false same more found = one_behind first names name (number_of names name) (more found)
 
--- a name that some note declares to be this
-pub number_declared : (texts : List (List ℕ)) (test : Says → Bool) (notes : List Note) (name : Token) → declares texts test notes name ≡ true
-    → IsNumberOf (names_that texts test notes) (text_of texts name) (number_of (names_that texts test notes) (text_of texts name))
-number_declared texts test notes name declared =
-    number_found (names_that texts test notes) (text_of texts name) (list_any-map (text_of texts) (bytes_eq (text_of texts name)) (tokens_that test notes) ∙ declared)
-
-pub declared_below : (texts : List (List ℕ)) (test : Says → Bool) (notes : List Note) (name : Token) → declares texts test notes name ≡ true
-    → number_of (names_that texts test notes) (text_of texts name) < length (names_that texts test notes)
-declared_below texts test notes name declared = (number_declared texts test notes name declared).below
+-- a name that some fact declares in this role
+pub number_declared : (test : Says → Bool) (facts : List Fact) (name : List ℕ) → declares test facts name ≡ true → IsNumberOf (names_that test facts) name (number_of (names_that test facts) name)
+number_declared test facts name declared = number_found (names_that test facts) name declared

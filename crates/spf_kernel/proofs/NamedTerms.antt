@@ -7,7 +7,6 @@ use Rattle.spf_lex.proofs.Leaves.{split_each, join_each}
 use Rattle.spf_term.specs.declared.term.Term.{Term, Term', out-Term, roll-Term, out-roll-Term, Row_of-Mono, end_of-Mono, more_of-Mono, items-the_row-Mono, items_shown-the_row-Mono-0}
 use Rattle.spf_term.specs.declared.term.Mono.{Mono}
 use Rattle.spf_lex.specs.declared.cursor.Token.{Token}
-use Rattle.spf_kernel.specs.declared.note.Note.{Note}
 use Rattle.spf_kernel.specs.declared.note.Spot.{Spot}
 use Rattle.spf_kernel.specs.declared.note.Spot.TheVariants as spot_is
 use Rattle.spf_kernel.specs.declared.note.Scope.{Scope}
@@ -21,12 +20,14 @@ use Rattle.spf_kernel.specs.declared.raw.RawFactor.TheVariants as raw_factor
 use Rattle.spf_kernel.specs.declared.tree.Value.{Value, Value', out-Value, roll-Value, out-roll-Value, Row_of-Prod, end_of-Prod, more_of-Prod, items-the_row-Prod, items_shown-the_row-Prod-1, Row_of-Factor, end_of-Factor, more_of-Factor, items-the_row-Factor, items_shown-the_row-Factor-0}
 use Rattle.spf_kernel.specs.declared.tree.Prod.{Prod}
 use Rattle.spf_kernel.specs.declared.tree.Factor.TheVariants as factor
-use Rattle.spf_kernel.specs.Names.{Names, names_of}
+use Rattle.spf_kernel.specs.Facts.{Fact, text_of, variables_in}
 use Rattle.spf_kernel.specs.Named.{NameCounts, IsNamedTerm, AreNamedMonos, IsNamedAtom, IsNamedValue, AreNamedProds, AreNamedFactors, IsNamedFactor}
-use Rattle.spf_kernel.specs.Notes.{ix_notes, steps_notes, mono_notes, atom_notes, value_notes, facts_notes, summands_notes, fact_notes, body_notes, subscript_notes}
+use Rattle.spf_kernel.specs.Names.{Names, names_of}
+use Rattle.spf_kernel.specs.Notes.{ix_notes, steps_notes, mono_notes, atom_notes, value_notes, facts_notes, summands_notes, fact_notes, subscript_notes, excess_notes, expression_notes, ix_monomials, monomial_limit, number_notes}
 use Rattle.spf_kernel.specs.Resolved.{constant_of, variable_of, table_of, data_array_of, is_data_array, bare_atom, bare_factor, term_of, more_monos, monos_of, atom_of, factor_at, value_of, more_factors, more_prods, factor_of}
 use Rattle.spf_kernel.specs.Rules.{takes_data, fits}
-use Rattle.spf_kernel.proofs.FittingNames.{IsBare, bare_fits, table_fits, IsEntry, entry_fits}
+use Rattle.spf_kernel.specs.Scopes.{inside}
+use Rattle.spf_kernel.proofs.FittingNames.{IsBare, bare_fits, table_fits, IsEntry, entry_fits, variable_named}
 use Rattle.spf_kernel.proofs.NamedUses.{AreFitting, IsFitting}
 
 -- ---- terms and values made of lists
@@ -71,23 +72,23 @@ module _ (counts : NameCounts) (variables : ℕ) where
 abbrev pub counts_of_names : Names → NameCounts
 counts_of_names names = record { params = length names.params; tables = length names.tables; arrays = length names.data_arrays }
 
--- each variable in scope has a number below this
-abbrev pub HasVariables : List (List ℕ) → Scope → ℕ → Type 0
-HasVariables texts scope variables = (name : Token) (variable : ℕ) → variable_of texts scope name ≡ Some variable → variable < variables
-
-module _ (texts : List (List ℕ)) (notes : List Note) (scope : Scope) (variables : ℕ) (has : HasVariables texts scope variables) where
+module _ (texts : List (List ℕ)) (facts : List Fact) (scope : Scope) where
   abbrev names : Names
-  names = names_of texts notes
+  names = names_of facts
 
   abbrev counts : NameCounts
   counts = counts_of_names names
 
+  abbrev variables : ℕ
+  variables = length (variables_in texts scope)
+
   -- a variable in scope, or else a declared parameter
   abbrev IsNamedBare : Token → Option ℕ → Type 0
-  IsNamedBare = IsBare texts notes (λ variable. variable < variables)
+  IsNamedBare name = IsBare facts (λ variable. variable < variables) (text_of texts name)
 
-  bare : (spot : Spot) (name : Token) → fits texts notes name false spot scope ≡ true → IsNamedBare name (variable_of texts scope name)
-  bare spot name fit = bare_fits texts notes (λ variable. variable < variables) spot scope name fit (has name)
+  bare : (spot : Spot) (name : Token) → fits facts (variables_in texts scope) (text_of texts name) false spot ≡ true → IsNamedBare name (variable_of (variables_in texts scope) (text_of texts name))
+  bare spot name fit =
+      bare_fits facts (λ variable. variable < variables) spot (variables_in texts scope) (text_of texts name) fit (λ variable found. (variable_named (variables_in texts scope) (text_of texts name) variable found).below)
 
   atom_bare : (name : Token) (variable : Option ℕ) → IsNamedBare name variable → IsNamedAtom counts variables (bare_atom texts names variable name)
   atom_bare name (Some variable) below = below
@@ -99,61 +100,61 @@ module _ (texts : List (List ℕ)) (notes : List Note) (scope : Scope) (variable
 
   -- ---- index expressions
 
-  module _ (spot : Spot) (no_data : takes_data texts spot ≡ false) where
+  module _ (spot : Spot) (no_data : takes_data spot ≡ false) where
     mutual
-      pub term_named : (x : RawIx) → AreFitting texts notes (ix_notes spot scope x) → IsNamedTerm counts variables (term_of texts names scope x)
+      pub term_named : (x : RawIx) → AreFitting texts facts (ix_notes spot scope x) → IsNamedTerm counts variables (term_of texts names scope x)
       term_named (RawIx' shape steps) each = rolled_term counts variables (more_monos texts names scope steps) (wrap (constant_of (RawIx' shape steps))) (steps_named steps each)
 
-      steps_named : {n : _} (row : Row_of-RawStep n) → AreFitting texts notes (steps_notes spot scope row) → AllByRecursion (IsNamedMono counts variables) (more_monos texts names scope row)
+      steps_named : {n : _} (row : Row_of-RawStep n) → AreFitting texts facts (steps_notes spot scope row) → AllByRecursion (IsNamedMono counts variables) (more_monos texts names scope row)
       steps_named end_of-RawStep each = tt
       steps_named (more_of-RawStep minus mono others) each =
-          let parts = split_each (IsFitting texts notes) (mono_notes spot scope mono) (steps_notes spot scope others) each in
+          let parts = split_each (IsFitting texts facts) (mono_notes spot scope mono) (steps_notes spot scope others) each in
           join_each (IsNamedMono counts variables) (monos_of texts names scope (is_some minus) mono) (more_monos texts names scope others) (mono_named (is_some minus) mono parts.0) (steps_named others parts.1)
 
-      mono_named : (minus : Bool) (x : RawMono) → AreFitting texts notes (mono_notes spot scope x) → AllByRecursion (IsNamedMono counts variables) (monos_of texts names scope minus x)
+      mono_named : (minus : Bool) (x : RawMono) → AreFitting texts facts (mono_notes spot scope x) → AllByRecursion (IsNamedMono counts variables) (monos_of texts names scope minus x)
       mono_named minus (Number' number RawMono-Number-1-None') each = tt
-      mono_named minus (Number' number (RawMono-Number-1-Some' atom)) each = (atom_named atom each.1.1, tt)
-      mono_named minus (raw_mono.Atom atom) each = (atom_named atom each.1, tt)
+      mono_named minus (Number' number (RawMono-Number-1-Some' atom)) each = (atom_named atom (split_each (IsFitting texts facts) (number_notes true number) (atom_notes spot scope atom) each).1, tt)
+      mono_named minus (raw_mono.Atom atom) each = (atom_named atom each, tt)
 
-      atom_named : (x : RawAtom) → AreFitting texts notes (atom_notes spot scope x) → IsNamedAtom counts variables (atom_of texts names scope x)
-      atom_named (RawAtom' name RawAtom-at-None') each = atom_bare name (variable_of texts scope name) (bare spot name each.0)
+      atom_named : (x : RawAtom) → AreFitting texts facts (atom_notes spot scope x) → IsNamedAtom counts variables (atom_of texts names scope x)
+      atom_named (RawAtom' name RawAtom-at-None') each = atom_bare name (variable_of (variables_in texts scope) (text_of texts name)) (bare spot name each.0)
       atom_named (RawAtom' name (RawAtom-at-Some' shape (more_of-RawIx ix end_of-RawIx))) each =
-          let parts = split_each (IsFitting texts notes) (ix_notes spot scope ix) [] each.1 in
-          ((table_fits texts notes spot no_data scope name each.0).below, term_named ix parts.0)
+          let parts = split_each (IsFitting texts facts) (ix_notes spot scope ix) [] each.1 in
+          ((table_fits facts spot no_data (variables_in texts scope) (text_of texts name) each.0).below, term_named ix parts.0)
 
-  pub body_named : (x : RawIx) → AreFitting texts notes (body_notes scope x) → IsNamedTerm counts variables (term_of texts names scope x)
-  body_named x each = term_named spot_is.Body refl x each.1
+    pub expression_named : (x : RawIx) → AreFitting texts facts (expression_notes spot scope x) → IsNamedTerm counts variables (term_of texts names scope x)
+    expression_named x each = term_named x (split_each (IsFitting texts facts) (excess_notes (monomial_limit spot) (ix_monomials x)) (ix_notes spot scope x) each).1
 
   -- ---- values
 
   -- a name, and what stands in the brackets behind it
-  at_named : (name : Token) (at : Option RawIx) → fits texts notes name (is_some at) spot_is.Factor scope ≡ true → AreFitting texts notes (subscript_notes scope at) → IsNamedFactor counts variables (factor_at texts names scope name at)
-  at_named name None fit each = factor_bare name (variable_of texts scope name) (bare spot_is.Factor name fit)
-  at_named name (Some ix) fit each = by (is_data_array texts names name) (entry_fits texts notes scope name fit) where
-    by : (b : Bool) → IsEntry texts notes name b
+  at_named : (name : Token) (at : Option RawIx) → fits facts (variables_in texts scope) (text_of texts name) (is_some at) spot_is.Factor ≡ true → AreFitting texts facts (subscript_notes scope at) → IsNamedFactor counts variables (factor_at texts names scope name at)
+  at_named name None fit each = factor_bare name (variable_of (variables_in texts scope) (text_of texts name)) (bare spot_is.Factor name fit)
+  at_named name (Some ix) fit each = by (is_data_array texts names name) (entry_fits facts (variables_in texts scope) (text_of texts name) fit) where
+    by : (b : Bool) → IsEntry facts (text_of texts name) b
         → IsNamedFactor counts variables (if b then factor.Cell (data_array_of texts names name) (term_of texts names scope ix) else factor.Index (table_of texts names name) (term_of texts names scope ix))
-    by true number = (number.below, body_named ix each)
-    by false number = (number.below, body_named ix each)
+    by true number = (number.below, expression_named spot_is.Body refl ix each)
+    by false number = (number.below, expression_named spot_is.Body refl ix each)
 
   mutual
-    pub value_named : (x : RawValue) → AreFitting texts notes (value_notes scope x) → IsNamedValue counts variables (value_of texts names scope x)
+    pub value_named : (x : RawValue) → AreFitting texts facts (value_notes scope x) → IsNamedValue counts variables (value_of texts names scope x)
     value_named (RawValue' shape summands) each = rolled_value counts variables (more_prods texts names scope summands) (summands_named summands each)
 
-    facts_named : {n : _} (row : Row_of-RawFactor n) → AreFitting texts notes (facts_notes scope row) → AllByRecursion (IsNamedFactor counts variables) (more_factors texts names scope row)
+    facts_named : {n : _} (row : Row_of-RawFactor n) → AreFitting texts facts (facts_notes scope row) → AllByRecursion (IsNamedFactor counts variables) (more_factors texts names scope row)
     facts_named end_of-RawFactor each = tt
     facts_named (more_of-RawFactor fact others) each =
-        let parts = split_each (IsFitting texts notes) (fact_notes scope fact) (facts_notes scope others) each in
+        let parts = split_each (IsFitting texts facts) (fact_notes scope fact) (facts_notes scope others) each in
         (fact_named fact parts.0, facts_named others parts.1)
 
-    summands_named : {n : _} (row : Row_of-RawSummand n) → AreFitting texts notes (summands_notes scope row) → AllByRecursion (IsNamedProd counts variables) (more_prods texts names scope row)
+    summands_named : {n : _} (row : Row_of-RawSummand n) → AreFitting texts facts (summands_notes scope row) → AllByRecursion (IsNamedProd counts variables) (more_prods texts names scope row)
     summands_named end_of-RawSummand each = tt
-    summands_named (more_of-RawSummand minus shape facts others) each =
-        let parts = split_each (IsFitting texts notes) (facts_notes scope facts) (summands_notes scope others) each in
-        (facts_named facts parts.0, summands_named others parts.1)
+    summands_named (more_of-RawSummand minus shape row others) each =
+        let parts = split_each (IsFitting texts facts) (facts_notes scope row) (summands_notes scope others) each in
+        (facts_named row parts.0, summands_named others parts.1)
 
-    fact_named : (x : RawFactor) → AreFitting texts notes (fact_notes scope x) → IsNamedFactor counts variables (factor_of texts names scope x)
+    fact_named : (x : RawFactor) → AreFitting texts facts (fact_notes scope x) → IsNamedFactor counts variables (factor_of texts names scope x)
     fact_named (raw_factor.Number number) each = tt
     fact_named (Paren' shape (more_of-RawValue inside end_of-RawValue)) each =
-        let parts = split_each (IsFitting texts notes) (value_notes scope inside) [] each in
+        let parts = split_each (IsFitting texts facts) (value_notes scope inside) [] each in
         value_named inside parts.0
     fact_named (raw_factor.Name atom) each = at_named (out-RawAtom atom).name (out-RawAtom atom).at each.1.0 each.1.1

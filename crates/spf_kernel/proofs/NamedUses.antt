@@ -1,17 +1,18 @@
 -- Where no rule is broken, each used name fits the place that it stands at, by all that is declared.
-use Rattle.std.proofs.Common.{◌≡◌, ℕ, Bool, true, false, not, ◌||◌, ◌&&◌, List, [], ◌∷◌, ◌++◌, refl, ap, sym, ◌∙◌, append_assoc, arith}
+use Rattle.std.proofs.Common.{◌≡◌, ℕ, Bool, true, false, not, ◌||◌, ◌&&◌, List, [], ◌∷◌, ◌++◌, refl, ap, ◌∙◌, subst, true≢false, append_assoc, arith}
 use Rattle.std.specs.Prelude.{⊤}
 use Rattle.std.proofs.lemmas.List.Folds.{list_any-append}
 use Rattle.std.specs.List.{list_any, AllByRecursion}
-use Rattle.spf_lex.specs.declared.cursor.Token.{Token}
+use Rattle.std.specs.Str.{bytes_eq}
 use Rattle.spf_kernel.specs.declared.note.Note.{Note}
 use Rattle.spf_kernel.specs.declared.note.Says.{Says}
-use Rattle.spf_kernel.specs.declared.note.Says.TheVariants.{Declared, Variable, Used, Number, Expression, Monomial, Factor, Guard, Condition}
+use Rattle.spf_kernel.specs.declared.note.Says.TheVariants.{Used, Large, Excess}
 use Rattle.spf_kernel.specs.declared.note.Spot.{Spot}
-use Rattle.spf_kernel.specs.declared.note.Scope.{Scope}
-use Rattle.spf_kernel.specs.Rules.{IsUnbroken, is_table, is_data, is_param, is_declared, is_in_scope, takes_table, takes_data, tokens_that, same_text, declares, fits}
-use Rattle.spf_kernel.proofs.Naming.{tokens_append}
-use Rattle.spf_kernel.proofs.Unbroken.{unbroken_parts}
+use Rattle.spf_kernel.specs.Facts.{Fact, fact_of, facts_of}
+use Rattle.spf_kernel.specs.Rules.{IsUnbroken, is_data, is_in_scope, is_param, is_table, names_that, takes_data, takes_table, is_known, declares, fits}
+use Rattle.spf_kernel.proofs.Adding.{names_append}
+use Rattle.spf_kernel.proofs.Counting.{more}
+use Rattle.spf_kernel.proofs.Unbroken.{AreSound, Keeps, sound}
 
 -- neither unknown nor misused
 known_and_used : (known used : Bool) → not known ≡ false → known && not used ≡ false → used ≡ true
@@ -26,56 +27,62 @@ both : (a b c : Bool) → (b ≡ true → c ≡ true) → a && b ≡ true → a 
 both true b c more e = more e
 both false b c more e = e
 
-module _ (texts : List (List ℕ)) where
-  -- what is declared before is declared in all
-  declared_more : (test : Says → Bool) (before after : List Note) (name : Token) → declares texts test before name ≡ true → declares texts test (before ++ after) name ≡ true
-  declared_more test before after name e =
-      ap (list_any (same_text texts name)) (tokens_append test before after)
-      ∙ list_any-append (same_text texts name) (tokens_that test before) (tokens_that test after)
-      ∙ ap (λ b. b || declares texts test after name) e
+-- what is declared before is declared in all
+declared_more : (test : Says → Bool) (before after : List Fact) (name : List ℕ) → declares test before name ≡ true → declares test (before ++ after) name ≡ true
+declared_more test before after name e =
+    ap (list_any (bytes_eq name)) (names_append test before after)
+    ∙ list_any-append (bytes_eq name) (names_that test before) (names_that test after)
+    ∙ ap (λ b. b || declares test after name) e
 
-  fits_more : (before after : List Note) (name : Token) (brackets : Bool) (spot : Spot) (scope : Scope) → fits texts before name brackets spot scope ≡ true
-      → fits texts (before ++ after) name brackets spot scope ≡ true
-  fits_more before after name true spot scope e =
-      let all = before ++ after in
-      either (takes_table texts spot && declares texts is_table before name) (takes_data texts spot && declares texts is_data before name)
-      (takes_table texts spot && declares texts is_table all name) (takes_data texts spot && declares texts is_data all name)
-      (both (takes_table texts spot) (declares texts is_table before name) (declares texts is_table all name) (declared_more is_table before after name))
-      (both (takes_data texts spot) (declares texts is_data before name) (declares texts is_data all name) (declared_more is_data before after name)) e
-  fits_more before after name false spot scope e =
-      either (is_in_scope texts scope name) (declares texts is_param before name) (is_in_scope texts scope name) (declares texts is_param (before ++ after) name)
-      (λ e. e) (declared_more is_param before after name) e
+fits_more : (before after : List Fact) (variables : List (List ℕ)) (name : List ℕ) (brackets : Bool) (spot : Spot) → fits before variables name brackets spot ≡ true
+    → fits (before ++ after) variables name brackets spot ≡ true
+fits_more before after variables name true spot e =
+    let all = before ++ after in
+    either (takes_table spot && declares is_table before name) (takes_data spot && declares is_data before name)
+    (takes_table spot && declares is_table all name) (takes_data spot && declares is_data all name)
+    (both (takes_table spot) (declares is_table before name) (declares is_table all name) (declared_more is_table before after name))
+    (both (takes_data spot) (declares is_data before name) (declares is_data all name) (declared_more is_data before after name)) e
+fits_more before after variables name false spot e =
+    either (is_in_scope variables name) (declares is_param before name) (is_in_scope variables name) (declares is_param (before ++ after) name)
+    (λ e. e) (declared_more is_param before after name) e
 
-  module _ (notes : List Note) where
-    -- a used name fits
-    abbrev pub Fits : Token → Says → Type 0
-    Fits name (Used brackets spot scope) = fits texts notes name brackets spot scope ≡ true
-    Fits name says = ⊤
+module _ (facts : List Fact) where
+  -- a used name fits, and nothing is large or in excess
+  abbrev pub Fits : List (List ℕ) → List ℕ → Says → Type 0
+  Fits variables name (Used brackets spot) = fits facts variables name brackets spot ≡ true
+  Fits variables name Large = ⊥
+  Fits variables name Excess = ⊥
+  Fits variables name says = ⊤
 
-    abbrev pub IsFitting : Note → Type 0
-    IsFitting note = Fits note.token note.says
+  abbrev pub IsFit : Fact → Type 0
+  IsFit fact = Fits fact.variables fact.name fact.says
 
-    abbrev pub AreFitting : List Note → Type 0
-    AreFitting part = AllByRecursion IsFitting part
+fact_fits : (before : List Fact) (variables : List (List ℕ)) (name : List ℕ) (says : Says) (after : List Fact) → Keeps before (record { says = says; name = name; variables = variables })
+    → Fits (before ++ record { says = says; name = name; variables = variables } ∷ after) variables name says
+fact_fits before variables name (Used brackets spot) after keeps =
+    let here = known_and_used (is_known before variables name) (fits before variables name brackets spot) (keeps 2 _ refl) (keeps 3 _ refl) in
+    fits_more before (record { says = Used brackets spot; name = name; variables = variables } ∷ after) variables name brackets spot here
+fact_fits before variables name Large after keeps = true≢false (keeps 4 _ refl)
+fact_fits before variables name Excess after keeps = true≢false (keeps 8 _ refl)
+fact_fits before variables name says after keeps = tt
 
-  module _ (notes : List Note) (unbroken : IsUnbroken texts notes) where
-    note_fits : (before : List Note) (name : Token) (says : Says) (after : List Note) → notes ≡ before ++ record { token = name; says = says } ∷ after → Fits notes name says
-    note_fits before name (Used brackets spot scope) after split =
-        let keeps = unbroken_parts texts notes unbroken before (record { token = name; says = Used brackets spot scope }) after split in
-        let here = known_and_used (is_declared texts before name || is_in_scope texts scope name) (fits texts before name brackets spot scope) keeps.unknown keeps.misused in
-        rw split (fits_more before (record { token = name; says = Used brackets spot scope } ∷ after) name brackets spot scope here)
-    note_fits before name (Declared sort) after split = tt
-    note_fits before name (Variable outer) after split = tt
-    note_fits before name (Number times) after split = tt
-    note_fits before name Expression after split = tt
-    note_fits before name (Monomial spot) after split = tt
-    note_fits before name Factor after split = tt
-    note_fits before name Guard after split = tt
-    note_fits before name Condition after split = tt
+rest_fit : (front rest : List Fact) → AreSound front rest → AllByRecursion (IsFit (front ++ rest)) rest
+rest_fit front [] sound = tt
+rest_fit front (fact ∷ rest) sound = (
+  fact_fits front fact.variables fact.name fact.says rest sound.0,
+  subst (λ (all : List Fact). AllByRecursion (IsFit all) rest) (append_assoc front (fact ∷ []) rest) (rest_fit (front ++ fact ∷ []) rest sound.1),
+)
 
-    rest_fit : (seen rest : List Note) → notes ≡ seen ++ rest → AreFitting notes rest
-    rest_fit seen [] split = tt
-    rest_fit seen (note ∷ rest) split = (note_fits seen note.token note.says rest split, rest_fit (seen ++ note ∷ []) rest (split ∙ sym (append_assoc seen (note ∷ []) rest)))
+-- ---- told of notes
 
-    pub all_fit : AreFitting notes notes
-    all_fit = rest_fit [] notes refl
+abbrev pub IsFitting : List (List ℕ) → List Fact → Note → Type 0
+IsFitting texts facts note = IsFit facts (fact_of texts note)
+
+abbrev pub AreFitting : List (List ℕ) → List Fact → List Note → Type 0
+AreFitting texts facts notes = AllByRecursion (IsFitting texts facts) notes
+
+pub all_fit : (texts : List (List ℕ)) (notes : List Note) → IsUnbroken texts notes → AreFitting texts (facts_of texts notes) notes
+all_fit texts notes unbroken = by notes (rest_fit [] (facts_of texts notes) (sound texts notes unbroken)) where
+  by : (rest : List Note) → AllByRecursion (IsFit (facts_of texts notes)) (facts_of texts rest) → AreFitting texts (facts_of texts notes) rest
+  by [] each = tt
+  by (note ∷ rest) each = (each.0, by rest each.1)

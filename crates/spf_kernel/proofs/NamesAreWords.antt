@@ -28,10 +28,11 @@ use Rattle.spf_kernel.specs.declared.note.Note.{Note}
 use Rattle.spf_kernel.specs.declared.note.Spot.{Spot}
 use Rattle.spf_kernel.specs.declared.note.Spot.TheVariants as spot_is
 use Rattle.spf_kernel.specs.declared.note.Scope.{Scope}
+use Rattle.spf_kernel.specs.Facts.{text_of}
 use Rattle.spf_kernel.specs.IsKernel.{IsKernel}
 use Rattle.spf_kernel.specs.Notes.{expression_notes, part_notes, item_notes, loop_notes, head_notes, bound_notes, body_notes, param_note, cells_notes, decl_notes, kernel_notes}
 use Rattle.spf_kernel.specs.Productions.{braced, decl, index, inner, item, ix, kernel, one_loop, params, part, range, sized, values}
-use Rattle.spf_kernel.specs.Rules.{is_naming, tokens_that, text_of}
+use Rattle.spf_kernel.specs.Rules.{is_naming, tokens_that}
 use Rattle.spf_kernel.specs.Scopes.{within, inside, nothing}
 use Rattle.spf_kernel.proofs.Clear.{kinds_exact}
 use Rattle.spf_kernel.proofs.NothingNamed.{each_of_flat_map, expression_each, part_each}

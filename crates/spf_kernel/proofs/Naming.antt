@@ -5,9 +5,10 @@ use Rattle.spf_base.specs.Word.{IsName}
 use Rattle.spf_lex.specs.declared.cursor.Token.{Token}
 use Rattle.spf_kernel.specs.declared.note.Note.{Note}
 use Rattle.spf_kernel.specs.declared.note.Says.{Says}
-use Rattle.spf_kernel.specs.Rules.{text_of, tokens_that, is_naming}
+use Rattle.spf_kernel.specs.Facts.{text_of}
 use Rattle.spf_kernel.specs.Notes.{param_note}
 use Rattle.spf_kernel.specs.Resolved.{AreNames}
+use Rattle.spf_kernel.specs.Rules.{tokens_that, is_naming}
 
 module _ {X : Type 0} (P : X → Type 0) where
   all_left : (xs ys : List X) → All P (xs ++ ys) → All P xs

@@ -1,9 +1,14 @@
 -- The notes of index expressions and values, told of their parts as lists.
-use Rattle.std.proofs.Common.{◌≡◌, true, List, [], ◌∷◌, ◌++◌, flat_map, Option, None, Some, refl, ap, ◌∙◌, append-nil, sym, is_some}
+use Rattle.std.proofs.Common.{◌≡◌, ℕ, zero, suc, ◌-◌, ◌≤◌, nat_lt, Bool, true, false, List, [], ◌∷◌, ◌++◌, length, map, flat_map, drop, drop_of_length-le, Option, None, Some, refl, ap, ◌∙◌, append-nil, append_assoc, sym, is_some, arith}
+use Rattle.std.specs.Prelude.{if◌then◌else◌}
+use Rattle.std.proofs.lemmas.Bool.{ltb-false, le-ltb}
+use Rattle.std.proofs.lemmas.List.{length-drop, map-append}
+use Rattle.spf_lex.specs.declared.cursor.Token.{Token}
+use Rattle.spf_kernel.specs.declared.raw.RawMono.{RawMono}
 use Rattle.spf_kernel.specs.declared.note.Note.{Note}
 use Rattle.spf_kernel.specs.declared.note.Spot.{Spot}
 use Rattle.spf_kernel.specs.declared.note.Scope.{Scope}
-use Rattle.spf_kernel.specs.declared.note.Says.TheVariants.{Used}
+use Rattle.spf_kernel.specs.declared.note.Says.TheVariants.{Used, Large, Excess}
 use Rattle.spf_kernel.specs.declared.raw.RawIx.{RawIx, out-RawIx, RawIx', Row_of-RawStep, end_of-RawStep, more_of-RawStep, items-the_row-RawStep, items_shown-the_row-RawStep-1}
 use Rattle.spf_kernel.specs.declared.raw.RawStep.{RawStep}
 use Rattle.spf_kernel.specs.declared.raw.RawAtom.{RawAtom, out-RawAtom, RawAtom', end_of-RawIx, more_of-RawIx, RawAtom-at-None', RawAtom-at-Some'}
@@ -11,7 +16,9 @@ use Rattle.spf_kernel.specs.declared.raw.RawValue.{RawValue, out-RawValue, RawVa
 use Rattle.spf_kernel.specs.declared.raw.RawSummand.{RawSummand}
 use Rattle.spf_kernel.specs.declared.raw.RawFactor.{RawFactor, Paren', Row_of-RawValue, end_of-RawValue, more_of-RawValue}
 use Rattle.spf_kernel.specs.declared.raw.RawFactor.TheVariants.{Paren}
-use Rattle.spf_kernel.specs.Notes.{note, ix_notes, steps_notes, mono_notes, atom_notes, value_notes, facts_notes, summands_notes, fact_notes}
+use Rattle.spf_kernel.specs.Facts.{Fact}
+use Rattle.spf_kernel.specs.Notes.{note, ix_notes, steps_notes, mono_notes, atom_notes, value_notes, facts_notes, summands_notes, fact_notes, atom_monomials, excess_notes, ix_monomials, mark, mono_monomials, number_limit, number_notes, steps_monomials}
+use Rattle.spf_kernel.proofs.NamedUses.{AreFitting}
 
 module _ (spot : Spot) (scope : Scope) where
   abbrev pub step_notes : RawStep → List Note
@@ -30,10 +37,32 @@ module _ (spot : Spot) (scope : Scope) where
   at_notes None = []
   at_notes (Some ix) = ix_notes spot scope ix
 
-  pub atom_notes_are : (atom : RawAtom) → atom_notes spot scope atom ≡ note (out-RawAtom atom).name (Used (is_some (out-RawAtom atom).at) spot scope) ∷ at_notes (out-RawAtom atom).at
+  pub atom_notes_are : (atom : RawAtom) → atom_notes spot scope atom ≡ note (out-RawAtom atom).name (Used (is_some (out-RawAtom atom).at) spot) scope ∷ at_notes (out-RawAtom atom).at
   unfolding out-RawAtom denote.Hole.Carrier.out Rattle.spf_kernel.specs.declared.raw.RawMono.TheBlock.shown-the_row-RawIx-0 denote.Hole.Carrier.shown
   atom_notes_are (RawAtom' name RawAtom-at-None') = refl
-  atom_notes_are (RawAtom' name (RawAtom-at-Some' shape (more_of-RawIx ix end_of-RawIx))) = ap (λ (notes : List Note). note name (Used true spot scope) ∷ notes) (append-nil (ix_notes spot scope ix))
+  atom_notes_are (RawAtom' name (RawAtom-at-Some' shape (more_of-RawIx ix end_of-RawIx))) = ap (λ (notes : List Note). note name (Used true spot) scope ∷ notes) (append-nil (ix_notes spot scope ix))
+
+-- ---- monomials
+
+abbrev pub step_monomials : RawStep → List Token
+step_monomials step = mono_monomials step.mono
+
+monomials_are : {n : _} (row : Row_of-RawStep n) → steps_monomials row ≡ flat_map step_monomials (items-the_row-RawStep n row)
+monomials_are end_of-RawStep = refl
+monomials_are (more_of-RawStep minus mono others) = ap (λ (tokens : List Token). mono_monomials mono ++ tokens) (monomials_are others)
+
+pub ix_monomials_are : (ix : RawIx) → ix_monomials ix ≡ flat_map step_monomials (out-RawIx ix).steps
+unfolding out-RawIx denote.Hole.Carrier.out
+ix_monomials_are (RawIx' shape steps) = monomials_are steps ∙ ap (flat_map step_monomials) (sym (items_shown-the_row-RawStep-1 shape steps))
+
+abbrev pub at_monomials : Option RawIx → List Token
+at_monomials None = []
+at_monomials (Some ix) = ix_monomials ix
+
+pub atom_monomials_are : (atom : RawAtom) → atom_monomials atom ≡ at_monomials (out-RawAtom atom).at
+unfolding out-RawAtom denote.Hole.Carrier.out Rattle.spf_kernel.specs.declared.raw.RawMono.TheBlock.shown-the_row-RawIx-0 denote.Hole.Carrier.shown
+atom_monomials_are (RawAtom' name RawAtom-at-None') = refl
+atom_monomials_are (RawAtom' name (RawAtom-at-Some' shape (more_of-RawIx ix end_of-RawIx))) = append-nil (ix_monomials ix)
 
 module _ (scope : Scope) where
   facts_are : {n : _} (row : Row_of-RawFactor n) → facts_notes scope row ≡ flat_map (fact_notes scope) (items-the_row-RawFactor n row)
@@ -56,3 +85,42 @@ module _ (scope : Scope) where
   pub paren_notes_are : (value : RawValue) → fact_notes scope (Paren value) ≡ value_notes scope value
   unfolding Rattle.spf_kernel.specs.declared.raw.RawFactor.TheBlock.hidden-the_row-RawValue-0 denote.Hole.Carrier.hidden
   paren_notes_are value = append-nil (value_notes scope value)
+
+-- ---- what no fit part has
+
+-- a number within its limit isn't noted
+pub number_fits : (times : Bool) (number : Token) → number.value ≤ number_limit times → number_notes times number ≡ []
+number_fits times number small = ap (λ (large : Bool). if large then mark number Large ∷ [] else []) (le-ltb (number_limit times) number.value small)
+
+pub number_within : (texts : List (List ℕ)) (facts : List Fact) (times : Bool) (number : Token) → AreFitting texts facts (number_notes times number) → number.value ≤ number_limit times
+number_within texts facts times number = by (nat_lt (number_limit times) number.value) refl where
+  by : (b : Bool) → nat_lt (number_limit times) number.value ≡ b → AreFitting texts facts (if b then mark number Large ∷ [] else []) → number.value ≤ number_limit times
+  by true e each = absurd each.0
+  by false e each = ltb-false (number_limit times) number.value e
+
+pub excess_append : (room : ℕ) (xs ys : List Token) → excess_notes room (xs ++ ys) ≡ excess_notes room xs ++ excess_notes (room - length xs) ys
+excess_append zero xs ys =
+    let none : 0 - length xs ≡ 0 = omega arith in
+    map-append (λ token. mark token Excess) xs ys ∙ ap (λ room. excess_notes 0 xs ++ excess_notes room ys) (sym none)
+excess_append (suc room) [] ys =
+    let same : suc room ≡ suc room - 0 = omega arith in
+    ap (λ room. excess_notes room ys) same
+excess_append (suc room) (x ∷ xs) ys =
+    let same : room - length xs ≡ suc room - length (x ∷ xs) = omega arith in
+    excess_append room xs ys ∙ ap (λ left. excess_notes room xs ++ excess_notes left ys) same
+
+-- the same of what stands behind other notes
+pub more_excess : (room : ℕ) (xs ys : List Token) (old middle new : List Note) (left : ℕ) → middle ≡ old ++ excess_notes room xs → left ≡ room - length xs → new ≡ middle ++ excess_notes left ys
+    → new ≡ old ++ excess_notes room (xs ++ ys)
+more_excess room xs ys old middle new left first less second =
+    second ∙ (λ i. first i ++ excess_notes (less i) ys) ∙ append_assoc old (excess_notes room xs) (excess_notes (room - length xs) ys) ∙ ap (λ (notes : List Note). old ++ notes) (sym (excess_append room xs ys))
+
+-- so few monomials that none is noted
+pub none_in_excess : (room : ℕ) (tokens : List Token) → length tokens ≤ room → excess_notes room tokens ≡ []
+none_in_excess room tokens few = ap (map (λ token. mark token Excess)) (drop_of_length-le tokens few)
+
+pub few_monomials : (texts : List (List ℕ)) (facts : List Fact) (room : ℕ) (tokens : List Token) → AreFitting texts facts (excess_notes room tokens) → length tokens ≤ room
+few_monomials texts facts room tokens = by (drop room tokens) (length-drop room tokens) where
+  by : (left : List Token) → length left ≡ length tokens - room → AreFitting texts facts (map (λ token. mark token Excess) left) → length tokens ≤ room
+  by [] e each = omega (arith, e)
+  by (token ∷ left) e each = absurd each.0

@@ -1,5 +1,8 @@
 -- Index expressions, values and statements give no name to anything.
-use Rattle.std.proofs.Common.{◌≡◌, false, List, [], ◌∷◌, ◌++◌, flat_map, Option, None, Some, refl}
+use Rattle.std.proofs.Common.{◌≡◌, nat_lt, Bool, true, false, List, [], ◌∷◌, ◌++◌, map, flat_map, drop, Option, None, Some, refl}
+use Rattle.std.specs.Prelude.{if◌then◌else◌}
+use Rattle.spf_lex.specs.declared.cursor.Token.{Token}
+use Rattle.spf_kernel.specs.declared.note.Says.TheVariants.{Large, Excess}
 use Rattle.std.specs.List.{AllByRecursion}
 use Rattle.spf_lex.proofs.Leaves.{join_each}
 use Rattle.spf_kernel.specs.declared.raw.RawIx.{RawIx, RawIx', Row_of-RawStep, end_of-RawStep, more_of-RawStep}
@@ -17,8 +20,9 @@ use Rattle.spf_kernel.specs.declared.note.Note.{Note}
 use Rattle.spf_kernel.specs.declared.note.Spot.{Spot}
 use Rattle.spf_kernel.specs.declared.note.Spot.TheVariants as spot_is
 use Rattle.spf_kernel.specs.declared.note.Scope.{Scope}
-use Rattle.spf_kernel.specs.Notes.{ix_notes, steps_notes, mono_notes, atom_notes, nested_notes, expression_notes, value_notes, facts_notes, summands_notes, fact_notes, inside_notes, read_notes, subscript_notes, body_notes, assign_notes, cond_notes, guard_notes, part_notes}
+use Rattle.spf_kernel.specs.Notes.{ix_notes, steps_notes, mono_notes, atom_notes, nested_notes, expression_notes, value_notes, facts_notes, summands_notes, fact_notes, inside_notes, read_notes, subscript_notes, body_notes, assign_notes, cond_notes, guard_notes, part_notes, excess_notes, ix_monomials, mark, monomial_limit, number_limit, number_notes}
 use Rattle.spf_kernel.specs.Rules.{is_naming}
+use Rattle.spf_kernel.specs.Scopes.{inside}
 
 -- what holds of the notes of each of a list's elements holds of all of them
 pub each_of_flat_map : {A : Type 0} (P : Note → Type 0) (notes : A → List Note) → ((x : A) → AllByRecursion P (notes x)) → (xs : List A) → AllByRecursion P (flat_map notes xs)
@@ -32,6 +36,16 @@ module _ (P : Note → Type 0) (none : (note : Note) → is_naming note.says ≡
 
   -- ---- index expressions
 
+  number_each : (times : Bool) (number : Token) → AllByRecursion P (number_notes times number)
+  number_each times number = by (nat_lt (number_limit times) number.value) where
+    by : (b : Bool) → AllByRecursion P (if b then mark number Large ∷ [] else [])
+    by true = (none _ refl, tt)
+    by false = tt
+
+  excess_each : (tokens : List Token) → AllByRecursion P (map (λ token. mark token Excess) tokens)
+  excess_each [] = tt
+  excess_each (token ∷ tokens) = (none _ refl, excess_each tokens)
+
   module _ (spot : Spot) (scope : Scope) where
     mutual
       ix_each : (x : RawIx) → AllByRecursion P (ix_notes spot scope x)
@@ -42,9 +56,9 @@ module _ (P : Note → Type 0) (none : (note : Note) → is_naming note.says ≡
       steps_each (more_of-RawStep minus mono others) = both (mono_notes spot scope mono) (steps_notes spot scope others) (mono_each mono) (steps_each others)
 
       mono_each : (x : RawMono) → AllByRecursion P (mono_notes spot scope x)
-      mono_each (Number' number RawMono-Number-1-None') = (none _ refl, (none _ refl, tt))
-      mono_each (Number' number (RawMono-Number-1-Some' atom)) = (none _ refl, (none _ refl, atom_each atom))
-      mono_each (Atom atom) = (none _ refl, atom_each atom)
+      mono_each (Number' number RawMono-Number-1-None') = number_each false number
+      mono_each (Number' number (RawMono-Number-1-Some' atom)) = both (number_notes true number) (atom_notes spot scope atom) (number_each true number) (atom_each atom)
+      mono_each (Atom atom) = atom_each atom
 
       atom_each : (x : RawAtom) → AllByRecursion P (atom_notes spot scope x)
       atom_each (RawAtom' name RawAtom-at-None') = (none _ refl, tt)
@@ -55,7 +69,7 @@ module _ (P : Note → Type 0) (none : (note : Note) → is_naming note.says ≡
       nested_each (more_of-RawIx x others) = both (ix_notes spot scope x) (nested_notes spot scope others) (ix_each x) (nested_each others)
 
     pub expression_each : (x : RawIx) → AllByRecursion P (expression_notes spot scope x)
-    expression_each x = (none _ refl, ix_each x)
+    expression_each x = both (excess_notes (monomial_limit spot) (ix_monomials x)) (ix_notes spot scope x) (excess_each (drop (monomial_limit spot) (ix_monomials x))) (ix_each x)
 
   -- ---- values and statements
 

@@ -9,10 +9,10 @@ use Rattle.spf_lex.specs.declared.kind.Kind.{Kind}
 use Rattle.spf_lex.specs.declared.parts.PartFault.{PartFault}
 use Rattle.spf_lex.specs.declared.text_kind.TextKind.{TextKind}
 use Rattle.spf_lex.proofs.Finding as finding
+use Rattle.spf_kernel.specs.declared.raw.RawKernel.{RawKernel}
 use Rattle.spf_kernel.specs.IsKernel.{IsKernel}
 use Rattle.spf_kernel.specs.Productions.{kernel}
 use Rattle.spf_kernel.specs.Stands.{IsSyntaxFault, StandsAt}
-use Rattle.spf_kernel.specs.declared.raw.RawKernel.{RawKernel}
 use Rattle.spf_kernel.proofs.Clear.{kernel_clear, kernel_closed, kinds_exact}
 
 pub one_tree : (tokens : List (Lexed Kind)) (a b : RawKernel) → IsKernel tokens a → IsKernel tokens b → a ≡ b

@@ -9,9 +9,9 @@ use Rattle.spf_kernel.specs.declared.tree.Tree.{Tree}
 use Rattle.spf_kernel.specs.Checked.{Checked}
 use Rattle.spf_kernel.specs.Names.{Names}
 use Rattle.spf_kernel.specs.Notes.{kernel_notes}
+use Rattle.spf_kernel.specs.Parsed.{ParsesTo, IsParsed, IsRuleFault, IsVerdict}
 use Rattle.spf_kernel.specs.Resolved.{tree_of, AreNames}
 use Rattle.spf_kernel.specs.Stands.{StandsAt}
-use Rattle.spf_kernel.specs.Parsed.{ParsesTo, IsParsed, IsRuleFault, IsVerdict}
 use Rattle.spf_kernel.proofs.NamesAreWords.{names_are_words}
 
 pub kept : (tokens : Tokenized) (raw : RawKernel) (names : Names) (tree : Tree) → Checked (texts tokens) (kernel_notes raw) (Ok names) → tree ≡ tree_of (texts tokens) names raw → IsVerdict tokens raw (Ok tree)

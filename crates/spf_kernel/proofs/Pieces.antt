@@ -4,6 +4,7 @@ use Rattle.std.proofs.lemmas.List.{take_more, take_all, take-append-drop, get_or
 use Rattle.std.proofs.lemmas.Grind.{flat_map-append}
 use Rattle.std.proofs.lemmas.Option.{slice_get_past, slice_get_within, slice_get_read, slice_get-map, get_or_from_slice_get}
 use Rattle.std.specs.Option.{option_map}
+use Rattle.spf_kernel.specs.Scopes.{inside, within}
 
 in_the_middle : {B : Type 0} (before piece behind : List B) (left : ℕ) (y : B) → slice_get piece left ≡ Some y → slice_get ((before ++ piece) ++ behind) (length before + left) ≡ Some y
 in_the_middle before piece behind left y there =

@@ -14,6 +14,7 @@ use Rattle.spf_base.proofs.Wraps.{IsWrap-wrap, wrap_only}
 use Rattle.spf_lex.proofs.Leaves.{join_each}
 use Rattle.spf_kernel.specs.Printed.{limit, pieces}
 use Rattle.spf_kernel.specs.Resolved.{signed}
+use Rattle.spf_kernel.specs.Rules.{fits}
 
 -- ---- numbers of 64 bits
 

@@ -18,15 +18,16 @@ use Rattle.spf_kernel.specs.declared.note.Note.{Note}
 use Rattle.spf_kernel.specs.declared.raw.RawKernel.{RawKernel}
 use Rattle.spf_kernel.specs.declared.tree.Tree.{Tree}
 use Rattle.spf_kernel.specs.IsKernel.{IsKernel}
-use Rattle.spf_kernel.specs.Names.{Names}
+use Rattle.spf_kernel.specs.Names.{Names, names_of}
 use Rattle.spf_kernel.specs.Notes.{kernel_notes}
 use Rattle.spf_kernel.specs.Parsed.{IsParsed, IsTextOf, ParsesTo, meaning}
 use Rattle.spf_kernel.specs.Printed.{words_of}
 use Rattle.spf_kernel.specs.Productions.{kernel}
 use Rattle.spf_kernel.specs.Resolved.{tree_of}
 use Rattle.spf_kernel.specs.Rules.{IsUnbroken}
-use Rattle.spf_kernel.proofs.RulesAgain.{names_again, unbroken_again, all_kept}
+use Rattle.spf_kernel.proofs.NamedUses.{all_fit}
 use Rattle.spf_kernel.proofs.TokenLeaves.{token_is_leaf}
+use Rattle.spf_kernel.proofs.Unbroken.{AreSound, unbroken_by, sound}
 use Rattle.spf_kernel.proofs.Written.{IsLeaf, IsWritten}
 use Rattle.spf_kernel.proofs.WrittenKernel.{source_of, whole, kernel_written_again}
 
@@ -46,9 +47,9 @@ module _ (before : List (List ℕ)) (raw : RawKernel) where
       record {
         raw = again;
         stands = stands_printed bundle_words kernel tokens words again are (record { text = in_words (sym same) written.text; means = refl });
-        unbroken = rw are (unbroken_again before words notes (kernel_notes again) written.alike unbroken);
+        unbroken = rw are (unbroken_by words (kernel_notes again) (subst (AreSound []) (sym written.same) (sound before notes unbroken)));
         means =
-            sym written.means ∙ ap (λ (names : Names). tree_of words names again) (sym (names_again before words notes (kernel_notes again) written.alike.same))
+            sym written.means ∙ ap (λ (names : Names). tree_of words names again) (sym (ap names_of written.same))
             ∙ ap (λ (words : List (List ℕ)). meaning words again) (sym are);
       }
 
@@ -56,7 +57,7 @@ printed_from : (before : List (List ℕ)) (d : Derivation (Lexed Kind) kernel.sh
     → IsTextOf (joined (words_of (meaning before (kernel.make d)))) (meaning before (kernel.make d))
 printed_from before d leaves unbroken =
     let words = words_of (meaning before (kernel.make d)) in
-    by words refl (kernel_written_again before words d leaves (all_kept before (kernel_notes (kernel.make d)) unbroken) 0 (holds_all [] words))
+    by words refl (kernel_written_again before words d leaves (all_fit before (kernel_notes (kernel.make d)) unbroken) 0 (holds_all [] words))
   where
     by : (words : List (List ℕ)) → words ≡ words_of (meaning before (kernel.make d)) → IsAgain before (kernel.make d) words → IsTextOf (joined words) (meaning before (kernel.make d))
     by words same written =

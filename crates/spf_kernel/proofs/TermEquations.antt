@@ -10,6 +10,7 @@ use Rattle.spf_kernel.specs.declared.note.Scope.{Scope}
 use Rattle.spf_kernel.specs.declared.raw.RawIx.{RawIx, out-RawIx, RawIx', Row_of-RawStep, end_of-RawStep, more_of-RawStep, items-the_row-RawStep, items_shown-the_row-RawStep-1}
 use Rattle.spf_kernel.specs.declared.raw.RawStep.{RawStep}
 use Rattle.spf_kernel.specs.declared.raw.RawAtom.{RawAtom, out-RawAtom, RawAtom', end_of-RawIx, more_of-RawIx, RawAtom-at-None', RawAtom-at-Some'}
+use Rattle.spf_kernel.specs.Facts.{text_of, variables_in}
 use Rattle.spf_kernel.specs.Names.{Names}
 use Rattle.spf_kernel.specs.Resolved.{constant_of, variable_of, table_of, bare_atom, term_of, more_monos, monos_of, atom_of}
 
@@ -30,7 +31,7 @@ module _ (texts : List (List ℕ)) (names : Names) (scope : Scope) where
 
   -- a name with what stands in the brackets behind it
   abbrev pub atom_at : Token → Option RawIx → Atom
-  atom_at name None = bare_atom texts names (variable_of texts scope name) name
+  atom_at name None = bare_atom texts names (variable_of (variables_in texts scope) (text_of texts name)) name
   atom_at name (Some ix) = atom.App (table_of texts names name) (term_of texts names scope ix)
 
   pub atom_is_at : (atom : RawAtom) → atom_of texts names scope atom ≡ atom_at (out-RawAtom atom).name (out-RawAtom atom).at

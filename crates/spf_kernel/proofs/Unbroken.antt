@@ -1,31 +1,69 @@
--- Where no rule is broken, each note keeps each of them: the declared names are apart, and at most 64 of a sort.
-use Rattle.std.proofs.Common.{◌≡◌, ℕ, ◌+◌, ◌≤◌, Bool, true, false, cond, nat_le, ◌||◌, ◌&&◌, List, [], ◌∷◌, ◌++◌, length, filter, take, slice_get, Option, Some, refl, ap, sym, ◌∙◌, true≢false, append_assoc, append-nil, length-append, subst, ◌⊎◌, inl, inr, ⊎_elim, arith}
+-- Where no rule is broken, each fact keeps each rule behind those before: the declared names are apart, and at most 64 of a sort.
+use Rattle.std.proofs.Common.{◌≡◌, ℕ, ◌+◌, ◌≤◌, ◌<◌, get_or, Bool, true, false, cond, nat_le, ◌||◌, ◌&&◌, List, [], ◌∷◌, ◌++◌, length, filter, take, slice_get, Option, Some, refl, ap, sym, ◌∙◌, true≢false, append_assoc, append-nil, subst, ◌⊎◌, inl, inr, ⊎_elim, arith}
+use Rattle.std.specs.Prelude.{⊤}
 use Rattle.std.proofs.lemmas.Bool.{false_from_ne_true}
 use Rattle.std.proofs.lemmas.Bool.Decides.{nat_tests}
-use Rattle.std.proofs.lemmas.List.{length-map, take_all}
+use Rattle.std.proofs.lemmas.List.{length-map, map-append, map_push, take_all, take_more}
 use Rattle.std.proofs.lemmas.List.Sums.{length-filter}
 use Rattle.std.specs.Str.{bytes_eq}
 use Rattle.indexmap.specs.IndexSet.{insert_key}
-use Rattle.spf_lex.specs.declared.cursor.Token.{Token}
 use Rattle.spf_kernel.specs.declared.before.Before.{Before}
 use Rattle.spf_kernel.specs.declared.note.Note.{Note}
 use Rattle.spf_kernel.specs.declared.note.Says.{Says}
-use Rattle.spf_kernel.specs.declared.note.Says.TheVariants.{Declared, Variable, Used, Number, Expression, Monomial, Factor, Guard, Condition}
-use Rattle.spf_kernel.specs.declared.note.Sort.TheVariants.{Param, Index, Data, Loop}
-use Rattle.spf_kernel.specs.Rules.{rules, IsUnbroken, is_param, is_table, is_data, is_loop, is_naming, is_declared, is_outer_of, is_taken, is_late_name, is_site, declares, count_that, tokens_that, text_of}
+use Rattle.spf_kernel.specs.declared.note.Says.TheVariants.{Declared, Variable}
+use Rattle.spf_kernel.specs.declared.note.Sort.TheVariants.{Param, Index, Data}
 use Rattle.spf_kernel.specs.declared.rules.Breach.{Breach}
-use Rattle.spf_kernel.specs.Kept.{KeepsRules}
+use Rattle.spf_kernel.specs.Before.{before_of, once}
 use Rattle.spf_kernel.specs.Checked.{IsFirst}
+use Rattle.spf_kernel.specs.Facts.{Fact, fact_of, facts_of}
 use Rattle.spf_kernel.specs.Names.{IsShort, names_of}
-use Rattle.spf_kernel.specs.Before.{once, names_that, before_of}
+use Rattle.spf_kernel.specs.Rules.{IsUnbroken, count_that, is_data, is_in_scope, is_loop, is_naming, is_param, is_site, is_table, late_name, names_that, rules, is_known, declares}
 use Rattle.spf_kernel.proofs.Adding.{names_more, once_names_more, with_name}
-use Rattle.spf_kernel.proofs.Counting.{more, count_more}
-use Rattle.spf_kernel.proofs.NameLists.{list_any-map}
+use Rattle.spf_kernel.proofs.Counting.{count_more, more}
+
+abbrev pub Keeps : List Fact → Fact → Type 0
+Keeps before fact = (n : ℕ) (test : List Fact → Fact → Bool) → slice_get rules n ≡ Some test → test before fact ≡ false
+
+-- behind these facts, each of the others keeps the rules
+abbrev pub AreSound : List Fact → List Fact → Type 0
+AreSound before [] = ⊤
+AreSound before (fact ∷ facts) = Keeps before fact × AreSound (before ++ fact ∷ []) facts
+
+sound_there : (front before : List Fact) (fact : Fact) (after : List Fact) → AreSound front (before ++ fact ∷ after) → Keeps (front ++ before) fact
+sound_there front [] fact after sound = rw append-nil sound.0
+sound_there front (x ∷ before) fact after sound = subst (λ (seen : List Fact). Keeps seen fact) (append_assoc front (x ∷ []) before) (sound_there (front ++ x ∷ []) before fact after sound.1)
+
+module _ (texts : List (List ℕ)) (notes : List Note) where
+  pub sound : IsUnbroken texts notes → AreSound [] (facts_of texts notes)
+  sound unbroken = by [] notes refl where
+    by : (seen rest : List Note) → notes ≡ seen ++ rest → AreSound (facts_of texts seen) (facts_of texts rest)
+    by seen [] split = tt
+    by seen (note ∷ rest) split = (
+      λ n test there. false_from_ne_true _ (λ broken.
+          unbroken note.token.at (n + 1) (record { before = seen; note = note; after = rest; splits = split; there = refl; test = test; number = (n, refl, there); broken = broken })),
+      subst (λ (front : List Fact). AreSound front (facts_of texts rest)) (map_push (fact_of texts) seen note) (by (seen ++ note ∷ []) rest (split ∙ sym (append_assoc seen (note ∷ []) rest))),
+    )
+
+  pub unbroken_by : AreSound [] (facts_of texts notes) → IsUnbroken texts notes
+  unbroken_by sound place rule b =
+      let split = ap (facts_of texts) b.splits ∙ map-append (fact_of texts) b.before (b.note ∷ b.after) in
+      let keeps = sound_there [] (facts_of texts b.before) (fact_of texts b.note) (facts_of texts b.after) (subst (AreSound []) split sound) in
+      true≢false (sym b.broken ∙ keeps b.number.0 b.test b.number.2)
+
+pub none_unbroken : (texts : List (List ℕ)) → IsUnbroken texts []
+none_unbroken texts = unbroken_by texts [] tt
+
+-- what holds of no facts, and with each fact more, holds of all
+grown : (P : List Fact → Type 0) → ((before : List Fact) (fact : Fact) → Keeps before fact → P before → P (before ++ fact ∷ [])) → (front rest : List Fact) → P front → AreSound front rest → P (front ++ rest)
+grown P step front [] here sound = subst P (sym (append-nil front)) here
+grown P step front (fact ∷ rest) here sound = subst P (append_assoc front (fact ∷ []) rest) (grown P step (front ++ fact ∷ []) rest (step front fact sound.0 here) sound.1)
+
+-- ---- how many there are
 
 -- at most 64 parameters, and at most 64 arrays
-pub record IsFew (notes : List Note) : Type 0 where
-  pub params : count_that is_param notes ≤ 64
-  pub arrays : count_that is_table notes + count_that is_data notes ≤ 64
+pub record IsFew (facts : List Fact) : Type 0 where
+  pub params : count_that is_param facts ≤ 64
+  pub arrays : count_that is_table facts + count_that is_data facts ≤ 64
 
 below : (limit n : ℕ) → nat_le limit n ≡ false → n + 1 ≤ limit
 below limit n e = grind (arith, nat_tests)
@@ -34,6 +72,35 @@ below limit n e = grind (arith, nat_tests)
 one_more : (limit : ℕ) (counts : Bool) (n : ℕ) → counts && nat_le limit n ≡ false → n ≤ limit → more counts n ≤ limit
 one_more limit true n e few = below limit n e
 one_more limit false n e few = few
+
+few_after : (before : List Fact) (says : Says) → late_name before says ≡ false → IsFew before
+    → (more (is_param says) (count_that is_param before) ≤ 64) × (more (is_table says) (count_that is_table before) + more (is_data says) (count_that is_data before) ≤ 64)
+few_after before (Declared Param) e few = (below 64 (count_that is_param before) e, few.arrays)
+few_after before (Declared Index) e few = (few.params, omega (arith, below 64 (count_that is_table before + count_that is_data before) e))
+few_after before (Declared Data) e few = (few.params, omega (arith, below 64 (count_that is_table before + count_that is_data before) e))
+few_after before says e few = (few.params, few.arrays)
+
+few_more : (before : List Fact) (fact : Fact) → Keeps before fact → IsFew before → IsFew (before ++ fact ∷ [])
+few_more before fact keeps few =
+    let after = few_after before fact.says (keeps 5 _ refl) few in
+    record {
+      params = rw (count_more is_param before fact) after.0;
+      arrays = rw (count_more is_table before fact, count_more is_data before fact) after.1;
+    }
+
+pub few : (facts : List Fact) → AreSound [] facts → IsFew facts
+few facts sound = grown IsFew few_more [] facts (record { params = omega arith; arrays = omega arith }) sound
+
+-- at most 256 names with brackets stand in the loops
+pub few_sites : (facts : List Fact) → AreSound [] facts → count_that is_site facts ≤ 256
+few_sites facts sound = grown (λ seen. count_that is_site seen ≤ 256) step [] facts (omega arith) sound where
+  step : (before : List Fact) (fact : Fact) → Keeps before fact → count_that is_site before ≤ 256 → count_that is_site (before ++ fact ∷ []) ≤ 256
+  step before fact keeps few = rw (count_more is_site before fact) (one_more 256 (is_site fact.says) (count_that is_site before) (keeps 10 _ refl) few)
+
+how_many : (test : Says → Bool) (facts : List Fact) → length (names_that test facts) ≡ count_that test facts
+how_many test facts = length-map (filter (λ (fact : Fact). test fact.says) facts) (λ (fact : Fact). fact.name) ∙ length-filter (λ (fact : Fact). test fact.says) facts
+
+-- ---- names that are apart
 
 all_lack : (p t d l o : Bool) → (p || (t || (d || l))) || o ≡ false → (p ≡ false) × (t ≡ false) × (d ≡ false)
 all_lack true t d l o e = absurd (true≢false e)
@@ -45,161 +112,88 @@ not_second : (a b : Bool) → a && b ≡ false → a ≡ true → b ≡ false
 not_second true b e holds = e
 not_second false b e holds = absurd (true≢false (sym holds))
 
--- a note declares one of these sorts only where it gives a name
+-- a fact declares one of these sorts only where it gives a name
 pub naming : (says : Says) → (is_naming says ≡ true) ⊎ ((is_param says ≡ false) × (is_table says ≡ false) × (is_data says ≡ false))
 naming (Declared sort) = inl refl
-naming (Variable outer) = inl refl
-naming (Used brackets spot scope) = inr (refl, refl, refl)
-naming (Number times) = inr (refl, refl, refl)
-naming Expression = inr (refl, refl, refl)
-naming (Monomial spot) = inr (refl, refl, refl)
-naming Factor = inr (refl, refl, refl)
-naming Guard = inr (refl, refl, refl)
-naming Condition = inr (refl, refl, refl)
+naming Variable = inl refl
+naming says = inr (refl, refl, refl)
+
+-- a declared name was not declared before
+record IsNew (before : List Fact) (fact : Fact) : Type 0 where
+  params : is_param fact.says ≡ true → declares is_param before fact.name ≡ false
+  tables : is_table fact.says ≡ true → declares is_table before fact.name ≡ false
+  data_arrays : is_data fact.says ≡ true → declares is_data before fact.name ≡ false
+
+new_name : (before : List Fact) (fact : Fact) → Keeps before fact → IsNew before fact
+new_name before fact keeps = ⊎_elim
+    (λ names.
+    let lacks =
+    all_lack (declares is_param before fact.name) (declares is_table before fact.name) (declares is_data before fact.name) (declares is_loop before fact.name)
+    (is_in_scope fact.variables fact.name) (not_second (is_naming fact.says) (is_known before fact.variables fact.name) (keeps 1 _ refl) names) in
+    record { params = λ _. lacks.0; tables = λ _. lacks.1; data_arrays = λ _. lacks.2 })
+    (λ other. record {
+      params = λ holds. absurd (true≢false (sym holds ∙ other.0));
+      tables = λ holds. absurd (true≢false (sym holds ∙ other.1));
+      data_arrays = λ holds. absurd (true≢false (sym holds ∙ other.2));
+    })
+    (naming fact.says)
 
 once_none : once [] ≡ []
 unfolding once
 once_none = refl
 
-module _ (texts : List (List ℕ)) (before : List Note) (token : Token) where
-  few_after : (says : Says) → is_late_name texts before token says ≡ false → IsFew before
-      → (more (is_param says) (count_that is_param before) ≤ 64) × (more (is_table says) (count_that is_table before) + more (is_data says) (count_that is_data before) ≤ 64)
-  few_after (Declared Param) e few = (below 64 (count_that is_param before) e, few.arrays)
-  few_after (Declared Index) e few = (few.params, omega (arith, below 64 (count_that is_table before + count_that is_data before) e))
-  few_after (Declared Data) e few = (few.params, omega (arith, below 64 (count_that is_table before + count_that is_data before) e))
-  few_after (Declared Loop) e few = (few.params, few.arrays)
-  few_after (Variable outer) e few = (few.params, few.arrays)
-  few_after (Used brackets spot scope) e few = (few.params, few.arrays)
-  few_after (Number times) e few = (few.params, few.arrays)
-  few_after Expression e few = (few.params, few.arrays)
-  few_after (Monomial spot) e few = (few.params, few.arrays)
-  few_after Factor e few = (few.params, few.arrays)
-  few_after Guard e few = (few.params, few.arrays)
-  few_after Condition e few = (few.params, few.arrays)
-
-  -- a declared name was not declared before
-  record IsNew (says : Says) : Type 0 where
-    params : is_param says ≡ true → declares texts is_param before token ≡ false
-    tables : is_table says ≡ true → declares texts is_table before token ≡ false
-    data_arrays : is_data says ≡ true → declares texts is_data before token ≡ false
-
-  new_name : (says : Says) → is_taken texts before token says ≡ false → IsNew says
-  new_name says e = ⊎_elim
-      (λ names.
-      let lacks =
-      all_lack (declares texts is_param before token) (declares texts is_table before token) (declares texts is_data before token) (declares texts is_loop before token)
-      (is_outer_of texts token says) (not_second (is_naming says) (is_declared texts before token || is_outer_of texts token says) e names) in
-      record { params = λ _. lacks.0; tables = λ _. lacks.1; data_arrays = λ _. lacks.2 })
-      (λ other. record {
-        params = λ holds. absurd (true≢false (sym holds ∙ other.0));
-        tables = λ holds. absurd (true≢false (sym holds ∙ other.1));
-        data_arrays = λ holds. absurd (true≢false (sym holds ∙ other.2));
-      })
-      (naming says)
-
-how_many : (texts : List (List ℕ)) (test : Says → Bool) (notes : List Note) → length (names_that texts test notes) ≡ count_that test notes
-how_many texts test notes =
-    length-map (tokens_that test notes) (text_of texts)
-    ∙ (length-map (filter (λ (note : Note). test note.says) notes) (λ (note : Note). note.token) ∙ length-filter (λ (note : Note). test note.says) notes)
-
-pub none_unbroken : (texts : List (List ℕ)) → IsUnbroken texts []
-none_unbroken texts place rule b = absurd (omega (arith, ap length b.splits, length-append b.before (b.note ∷ b.after)))
-
-module _ (texts : List (List ℕ)) (notes : List Note) (unbroken : IsUnbroken texts notes) where
-  unbroken_at : (before : List Note) (note : Note) (after : List Note) → notes ≡ before ++ note ∷ after
-      → (n : ℕ) (test : List Note → Token → Says → Bool) → slice_get (rules texts) n ≡ Some test → test before note.token note.says ≡ false
-  unbroken_at before note after split n test there = false_from_ne_true _ (λ broken.
-      unbroken note.token.at (n + 1) (record { before = before; note = note; after = after; splits = split; there = refl; test = test; number = (n, refl, there); broken = broken }))
-
-  -- each note keeps each rule
-  pub unbroken_parts : (before : List Note) (note : Note) (after : List Note) → notes ≡ before ++ note ∷ after → KeepsRules texts before note
-  unbroken_parts before note after split =
-      let at = unbroken_at before note after split in
-      record {
-        capital = at 0 _ refl;
-        taken = at 1 _ refl;
-        unknown = at 2 _ refl;
-        misused = at 3 _ refl;
-        large = at 4 _ refl;
-        late_name = at 5 _ refl;
-        late_loop = at 6 _ refl;
-        late_target = at 7 _ refl;
-        late_part = at 8 _ refl;
-        late_condition = at 9 _ refl;
-        late_site = at 10 _ refl;
-      }
-
-  -- what holds of no notes, and with each note more, holds of all
-  grown : (P : List Note → Type 0) (seen rest : List Note) → notes ≡ seen ++ rest → P seen
-      → ((before : List Note) (note : Note) → KeepsRules texts before note → P before → P (before ++ note ∷ [])) → P notes
-  grown P seen [] split here step = subst P (sym (split ∙ append-nil seen)) here
-  grown P seen (note ∷ rest) split here step =
-      grown P (seen ++ note ∷ []) rest (split ∙ sym (append_assoc seen (note ∷ []) rest)) (step seen note (unbroken_parts seen note rest split) here) step
-
-  few_more : (before : List Note) (note : Note) → KeepsRules texts before note → IsFew before → IsFew (before ++ note ∷ [])
-  few_more before note keeps few =
-      let after = few_after texts before note.token note.says keeps.late_name few in
-      record {
-        params = rw (count_more is_param before note) after.0;
-        arrays = rw (count_more is_table before note, count_more is_data before note) after.1;
-      }
-
-  pub few : IsFew notes
-  few = grown IsFew [] notes refl (record { params = omega arith; arrays = omega arith }) few_more
-
-  -- at most 256 names with brackets stand in the loops
-  pub few_sites : count_that is_site notes ≤ 256
-  few_sites = grown (λ seen. count_that is_site seen ≤ 256) [] notes refl (omega arith) (λ before note keeps few_before.
-      rw (count_more is_site before note) (one_more 256 (is_site note.says) (count_that is_site before) keeps.late_site few_before))
-
+module _ (facts : List Fact) (sound : AreSound [] facts) where
   -- where a name is new whenever it is declared to be this, the names are apart
-  apart : (test : Says → Bool) → ((before : List Note) (note : Note) → KeepsRules texts before note → test note.says ≡ true → declares texts test before note.token ≡ false)
-      → once (names_that texts test notes) ≡ names_that texts test notes
-  apart test new = grown (λ seen. once (names_that texts test seen) ≡ names_that texts test seen) [] notes refl once_none step
+  apart : (test : Says → Bool) → ((before : List Fact) (fact : Fact) → Keeps before fact → test fact.says ≡ true → declares test before fact.name ≡ false)
+      → once (names_that test facts) ≡ names_that test facts
+  apart test new = grown (λ seen. once (names_that test seen) ≡ names_that test seen) step [] facts once_none sound
     where
-      step : (before : List Note) (note : Note) → KeepsRules texts before note → once (names_that texts test before) ≡ names_that texts test before
-          → once (names_that texts test (before ++ note ∷ [])) ≡ names_that texts test (before ++ note ∷ [])
-      step before note keeps here = once_names_more texts test before note ∙ (by (test note.says) (new before note keeps) ∙ sym (names_more texts test before note))
+      step : (before : List Fact) (fact : Fact) → Keeps before fact → once (names_that test before) ≡ names_that test before
+          → once (names_that test (before ++ fact ∷ [])) ≡ names_that test (before ++ fact ∷ [])
+      step before fact keeps here = once_names_more test before fact ∙ (by (test fact.says) (new before fact keeps) ∙ sym (names_more test before fact))
         where
           names : List (List ℕ)
-          names = names_that texts test before
+          names = names_that test before
 
-          name : List ℕ
-          name = text_of texts note.token
-
-          by : (b : Bool) → (b ≡ true → declares texts test before note.token ≡ false) → with_name texts b (once names) note ≡ cond b (names ++ name ∷ []) names
-          by true lacks =
-              ap (λ (ns : List (List ℕ)). insert_key bytes_eq ns name) here
-              ∙ ap (λ (found : Bool). cond found names (names ++ name ∷ [])) (list_any-map (text_of texts) (bytes_eq name) (tokens_that test before) ∙ lacks refl)
+          by : (b : Bool) → (b ≡ true → declares test before fact.name ≡ false) → with_name b (once names) fact.name ≡ cond b (names ++ fact.name ∷ []) names
+          by true lacks = ap (λ (ns : List (List ℕ)). insert_key bytes_eq ns fact.name) here ∙ ap (λ (found : Bool). cond found names (names ++ fact.name ∷ [])) (lacks refl)
           by false lacks = here
 
-  module _ (before : Before) (stands : before ≡ before_of texts notes) where
-    params_are : before.params ≡ names_that texts is_param notes
+  module _ (before : Before) (stands : before ≡ before_of facts) where
+    params_are : before.params ≡ names_that is_param facts
     unfolding before_of
-    params_are = ap (λ (b : Before). b.params) stands ∙ apart is_param (λ seen note keeps holds. (new_name texts seen note.token note.says keeps.taken).params holds)
+    params_are = ap (λ (b : Before). b.params) stands ∙ apart is_param (λ seen fact keeps. (new_name seen fact keeps).params)
 
-    tables_are : before.tables ≡ names_that texts is_table notes
+    tables_are : before.tables ≡ names_that is_table facts
     unfolding before_of
-    tables_are = ap (λ (b : Before). b.tables) stands ∙ apart is_table (λ seen note keeps holds. (new_name texts seen note.token note.says keeps.taken).tables holds)
+    tables_are = ap (λ (b : Before). b.tables) stands ∙ apart is_table (λ seen fact keeps. (new_name seen fact keeps).tables)
 
-    data_arrays_are : before.data_arrays ≡ names_that texts is_data notes
+    data_arrays_are : before.data_arrays ≡ names_that is_data facts
     unfolding before_of
-    data_arrays_are = ap (λ (b : Before). b.data_arrays) stands ∙ apart is_data (λ seen note keeps holds. (new_name texts seen note.token note.says keeps.taken).data_arrays holds)
+    data_arrays_are = ap (λ (b : Before). b.data_arrays) stands ∙ apart is_data (λ seen fact keeps. (new_name seen fact keeps).data_arrays)
 
     -- the sets are the declared names
-    pub are_names : record { params = before.params; tables = before.tables; data_arrays = before.data_arrays } ≡ names_of texts notes
+    pub are_names : record { params = before.params; tables = before.tables; data_arrays = before.data_arrays } ≡ names_of facts
     are_names = λ i. record { params = params_are i; tables = tables_are i; data_arrays = data_arrays_are i }
 
     -- and few
     pub are_short : IsShort (record { params = before.params; tables = before.tables; data_arrays = before.data_arrays })
     are_short = record {
-      params = rw (params_are, how_many texts is_param notes) few.params;
-      tables = rw (tables_are, how_many texts is_table notes) (omega (arith, few.arrays));
-      data_arrays = rw (data_arrays_are, how_many texts is_data notes) (omega (arith, few.arrays));
+      params = rw (params_are, how_many is_param facts) (few facts sound).params;
+      tables = rw (tables_are, how_many is_table facts) (omega (arith, (few facts sound).arrays));
+      data_arrays = rw (data_arrays_are, how_many is_data facts) (omega (arith, (few facts sound).arrays));
     }
+
+-- what holds of the notes up to one, and of it, holds behind it
+pub further : (texts : List (List ℕ)) (notes : List Note) (i : ℕ) (d : Note) (before : Before) (best : Option Breach) → i < length notes
+    → before ≡ before_of (facts_of texts (take i notes) ++ fact_of texts (get_or notes i d) ∷ []) → IsFirst texts (take i notes ++ get_or notes i d ∷ []) best
+    → (before ≡ before_of (facts_of texts (take (i + 1) notes))) × IsFirst texts (take (i + 1) notes) best
+further texts notes i d before best inside stands first =
+    subst (λ (seen : List Note). (before ≡ before_of (facts_of texts seen)) × IsFirst texts seen best) (sym (take_more notes i d inside))
+    (stands ∙ ap before_of (sym (map_push (fact_of texts) (take i notes) (get_or notes i d))), first)
 
 -- what holds of the notes up to an end that is behind them holds of all
 pub at_end : (texts : List (List ℕ)) (notes : List Note) (i : ℕ) (before : Before) (best : Option Breach) → length notes ≤ i
-    → before ≡ before_of texts (take i notes) → IsFirst texts (take i notes) best → (before ≡ before_of texts notes) × IsFirst texts notes best
+    → before ≡ before_of (facts_of texts (take i notes)) → IsFirst texts (take i notes) best → (before ≡ before_of (facts_of texts notes)) × IsFirst texts notes best
 at_end texts notes i before best past stands first =
-    subst (λ (seen : List Note). (before ≡ before_of texts seen) × IsFirst texts seen best) (take_all i notes past) (stands, first)
+    subst (λ (seen : List Note). (before ≡ before_of (facts_of texts seen)) × IsFirst texts seen best) (take_all i notes past) (stands, first)

@@ -10,6 +10,7 @@ use Rattle.spf_kernel.specs.declared.tree.Factor.{Factor}
 use Rattle.spf_kernel.specs.declared.tree.Factor.TheVariants as factor
 use Rattle.spf_kernel.specs.Names.{Names}
 use Rattle.spf_kernel.specs.Resolved.{product, value_of, more_factors, more_prods, factor_of}
+use Rattle.spf_kernel.specs.Scopes.{inside}
 
 module _ (texts : List (List ℕ)) (names : Names) (scope : Scope) where
   abbrev pub summand_of : RawSummand → Prod

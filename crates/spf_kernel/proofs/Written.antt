@@ -1,6 +1,6 @@
--- The printed words of a part of a tree, as tokens of the printed text: they spell the part again, and its notes tell the same.
-use Rattle.std.proofs.Common.{◌≡◌, ℕ, Bool, ◌≤◌, ◌^◌, List, [], Some, get_or, refl, sym, ◌∙◌}
-use Rattle.std.specs.Prelude.{option_map}
+-- The printed words of a part of a tree, as tokens of the printed text: they spell the part again, with the same facts.
+use Rattle.std.proofs.Common.{◌≡◌, ℕ, Bool, ◌≤◌, ◌^◌, List, [], ◌++◌, get_or, refl, ap, sym, ◌∙◌}
+use Rattle.std.proofs.lemmas.List.{map-append}
 use Rattle.spf_lex.specs.Derivation.{Derivation}
 use Rattle.spf_lex.specs.Grammar.{Grammar}
 use Rattle.spf_lex.specs.BundleWords.{bundle_words, same_kind}
@@ -15,11 +15,10 @@ use Rattle.spf_lex.proofs.PrintedWords.{IsText, Holds, in_words}
 use Rattle.spf_kernel.specs.declared.note.Note.{Note}
 use Rattle.spf_kernel.specs.declared.note.Scope.{Scope}
 use Rattle.spf_kernel.specs.declared.tree_names.TreeNames.{TreeNames}
+use Rattle.spf_kernel.specs.Facts.{Fact, fact_of, facts_of, text_of, variables_in}
 use Rattle.spf_kernel.specs.Names.{Names, names_of}
-use Rattle.spf_kernel.specs.Resolved.{variable_of}
-use Rattle.spf_kernel.specs.Rules.{text_of}
-use Rattle.spf_kernel.specs.TreeNames.{name_at}
-use Rattle.spf_kernel.proofs.Told.{AreKept, Alike}
+use Rattle.spf_kernel.proofs.Counting.{more}
+use Rattle.spf_kernel.proofs.NamedUses.{AreFitting}
 
 -- a token with this number and text
 abbrev pub token_of : ℕ → List ℕ → Token
@@ -42,34 +41,29 @@ pub record IsLeaf (texts : List (List ℕ)) (wanted : Kind) (leaf : Lexed Kind) 
 abbrev pub shown : Names → TreeNames
 shown names = record { params = names.params; tables = names.tables; arrays = names.data_arrays }
 
--- the variables in scope have these names, and those of the written words are the same
-pub record IsScoped (texts written : List (List ℕ)) (vars : List (List ℕ)) (scope again : Scope) : Type 0 where
-  pub named : (name : Token) (variable : ℕ) → variable_of texts scope name ≡ Some variable → name_at vars variable ≡ text_of texts name
-  pub variable : (name other : Token) → text_of written other ≡ text_of texts name → variable_of written again other ≡ variable_of texts scope name
-  pub outer : option_map (text_of written) again.outer ≡ option_map (text_of texts) scope.outer
-  pub inner : option_map (text_of written) again.inner ≡ option_map (text_of texts) scope.inner
-
--- a text, its printed words, and all notes of the text
+-- a text, its printed words, and all facts of the text
 pub record Source : Type 0 where
   pub texts : List (List ℕ)
   pub written : List (List ℕ)
-  pub notes : List Note
+  pub facts : List Fact
 
--- with the variables that are in scope
+-- with the variables that are in scope, which have the same names again
 pub record Context : Type 0 where
   pub texts : List (List ℕ)
   pub written : List (List ℕ)
-  pub notes : List Note
-  pub vars : List (List ℕ)
+  pub facts : List Fact
   pub scope : Scope
   pub again : Scope
-  pub scoped : IsScoped texts written vars scope again
+  pub scoped : variables_in written again ≡ variables_in texts scope
 
 abbrev pub source : Context → Source
-source c = record { texts = c.texts; written = c.written; notes = c.notes }
+source c = record { texts = c.texts; written = c.written; facts = c.facts }
 
 abbrev pub names_in : Context → Names
-names_in c = names_of c.texts c.notes
+names_in c = names_of c.facts
+
+abbrev pub vars_in : Context → List (List ℕ)
+vars_in c = variables_in c.texts c.scope
 
 abbrev pub shown_in : Context → TreeNames
 shown_in c = shown (names_in c)
@@ -89,28 +83,28 @@ in_scope c of notes words = record {
   means_again = of c.written (names_in c) c.again;
   notes = notes c.scope;
   notes_again = notes c.again;
-  words = words (shown_in c) c.vars;
+  words = words (shown_in c) (vars_in c);
 }
 
 abbrev pub in_source : {R A : Type 0} (s : Source) → (List (List ℕ) → Names → R → A) → (R → List Note) → (TreeNames → A → List (List ℕ)) → Meaning R A
 in_source s of notes words = record {
-  means = of s.texts (names_of s.texts s.notes);
-  means_again = of s.written (names_of s.texts s.notes);
+  means = of s.texts (names_of s.facts);
+  means_again = of s.written (names_of s.facts);
   notes = notes;
   notes_again = notes;
-  words = words (shown (names_of s.texts s.notes));
+  words = words (shown (names_of s.facts));
 }
 
 -- the notes are fit to be written again
 abbrev pub AreFit : Source → List Note → Type 0
-AreFit s notes = AreKept s.texts s.notes notes
+AreFit s notes = AreFitting s.texts s.facts notes
 
 module _ (s : Source) {R A : Type 0} where
-  -- the words of what this raw tree means are a text that means it again, and whose notes tell what its notes tell
+  -- the words of what this raw tree means are a text that means it again, and whose facts are its facts
   pub record IsWritten (g : Grammar Kind) (make : Derivation (Lexed Kind) g → R) (of : Meaning R A) (raw : R) (at : ℕ) : Type 0 where
     pub text : AreText g (of.words (of.means raw)) at
     pub means : of.means_again (make text.derivation) ≡ of.means raw
-    pub alike : Alike s.texts s.written (of.notes raw) (of.notes_again (make text.derivation))
+    pub same : facts_of s.written (of.notes_again (make text.derivation)) ≡ facts_of s.texts (of.notes raw)
 
   -- each text of the production whose notes are fit is written again, where the words that it is printed as stand
   abbrev pub AreWritten : {empty : Bool} → Production same_kind empty R → Meaning R A → Type 0
@@ -120,8 +114,8 @@ module _ (s : Source) {R A : Type 0} where
 
 -- words that, put together otherwise, are a text that means it again
 pub written_by : {s : Source} {R A : Type 0} {g : Grammar Kind} {make : Derivation (Lexed Kind) g → R} {of : Meaning R A} {raw : R} {line : List (List ℕ)} {at : ℕ} → of.words (of.means raw) ≡ line
-    → (text : AreText g line at) → of.means_again (make text.derivation) ≡ of.means raw → Alike s.texts s.written (of.notes raw) (of.notes_again (make text.derivation)) → IsWritten s g make of raw at
-written_by same text means alike = record { text = in_words (sym same) text; means = means; alike = alike }
+    → (text : AreText g line at) → of.means_again (make text.derivation) ≡ of.means raw → facts_of s.written (of.notes_again (make text.derivation)) ≡ facts_of s.texts (of.notes raw) → IsWritten s g make of raw at
+written_by same_words text means same = record { text = in_words (sym same_words) text; means = means; same = same }
 
 -- ---- names
 
@@ -141,3 +135,17 @@ name_written texts written name word at leaf is there = record {
   fixed = rw is (leaf.name refl);
   same = text_here written at word there ∙ is;
 }
+
+-- ---- facts
+
+pub facts_append : (texts : List (List ℕ)) (xs ys : List Note) → facts_of texts (xs ++ ys) ≡ facts_of texts xs ++ facts_of texts ys
+facts_append texts xs ys = map-append (fact_of texts) xs ys
+
+-- of parts one behind another
+pub same_append : (texts written : List (List ℕ)) (xs ys others more : List Note) → facts_of written xs ≡ facts_of texts others → facts_of written ys ≡ facts_of texts more
+    → facts_of written (xs ++ ys) ≡ facts_of texts (others ++ more)
+same_append texts written xs ys others more first second = facts_append written xs ys ∙ ((λ i. first i ++ second i) ∙ sym (facts_append texts others more))
+
+-- told by equal notes
+pub same_by : (texts written : List (List ℕ)) {xs ys others more : List Note} → xs ≡ ys → others ≡ more → facts_of written ys ≡ facts_of texts more → facts_of written xs ≡ facts_of texts others
+same_by texts written e f rest = ap (facts_of written) e ∙ rest ∙ sym (ap (facts_of texts) f)

@@ -7,6 +7,7 @@ use Rattle.spf_lex.specs.declared.kind.Kind.TheVariants as kind
 use Rattle.spf_lex.proofs.FixedWords.{small_fixed, symbol_fixed}
 use Rattle.spf_term.specs.declared.term.Term.{Term}
 use Rattle.spf_kernel.specs.declared.note.Note.{Note}
+use Rattle.spf_kernel.specs.declared.note.Says.TheVariants as says_is
 use Rattle.spf_kernel.specs.declared.note.Sort.TheVariants as sort_is
 use Rattle.spf_kernel.specs.declared.note.Spot.TheVariants as spot_is
 use Rattle.spf_kernel.specs.declared.raw.RawIx.{RawIx}
@@ -16,14 +17,13 @@ use Rattle.spf_kernel.specs.declared.raw.RawDecl.TheVariants as raw_decl
 use Rattle.spf_kernel.specs.declared.tree.DataDecl.{DataDecl}
 use Rattle.spf_kernel.specs.declared.tree.Decl.{Decl}
 use Rattle.spf_kernel.specs.declared.tree.Decl.TheVariants as decl_is
+use Rattle.spf_kernel.specs.Productions as syntax
+use Rattle.spf_kernel.specs.Facts.{text_of, fact_with}
 use Rattle.spf_kernel.specs.Names.{Names, names_of}
 use Rattle.spf_kernel.specs.Notes.{param_note, head_notes, cells_notes, decl_notes}
 use Rattle.spf_kernel.specs.Printed.{term_words, trend_words, sized_words, array_words, decl_words}
-use Rattle.spf_kernel.specs.Productions as syntax
 use Rattle.spf_kernel.specs.Resolved.{head_of, data_decl_of, decl_of}
-use Rattle.spf_kernel.specs.Rules.{text_of}
-use Rattle.spf_kernel.proofs.Alike.{alike_declared}
-use Rattle.spf_kernel.proofs.Written.{in_source, IsFixedWord, Source, shown, Meaning, AreFit, AreWritten}
+use Rattle.spf_kernel.proofs.Written.{in_source, IsFixedWord, Source, shown, Meaning, AreFit, AreWritten, same_by}
 use Rattle.spf_kernel.proofs.WrittenLoops.{outside}
 use Rattle.spf_kernel.proofs.WrittenParts.{Written, either_written, ◌&◌, led_by, ended_by, parted_by, a_sign, a_name, made_of}
 use Rattle.spf_kernel.proofs.WrittenSigns.{trend_written}
@@ -50,7 +50,7 @@ one_note_each (name ∷ names) = ap (λ (notes : List Note). param_note name ∷
 
 module _ (s : Source) where
   abbrev names : Names
-  names = names_of s.texts s.notes
+  names = names_of s.facts
 
   -- an index expression with no variable in scope
   abbrev pub a_head : Written s false RawIx Term
@@ -66,7 +66,7 @@ module _ (s : Source) where
 
   param_written : AreWritten s (token kind.Name) param_as
   param_written = made_of a_name param_as named_token
-      (record { fit = λ r fit. tt; words = λ r fit. refl; means = λ r again same. same; alike = λ r again same alike. alike_declared r again sort_is.Param same alike })
+      (record { fit = λ r fit. tt; words = λ r fit. refl; means = λ r again same. same; same = λ r again same facts i. fact_with (says_is.Declared sort_is.Param) (same i) [] ∷ [] })
 
   -- ---- arrays and their sizes
 
@@ -86,7 +86,7 @@ module _ (s : Source) where
   sized_written : AreWritten s syntax.sized sized_as
   unfolding syntax.sized
   sized_written = made_of (a_name & a_size (outside s) spot_is.Head refl) sized_as (λ x. record { name = x.0; size = x.1 })
-      (record { fit = λ r fit. fit; words = λ r fit. refl; means = λ r again same. same; alike = λ r again same alike. alike })
+      (record { fit = λ r fit. fit; words = λ r fit. refl; means = λ r again same. same; same = λ r again same facts. facts })
 
   abbrev a_sized : Written s false RawSized Sized
   a_sized = record { form = syntax.sized; of = sized_as; again = sized_written }
@@ -102,7 +102,7 @@ module _ (s : Source) where
     fit = λ r fit. fit.1;
     words = λ r fit. refl;
     means = λ r again same i. record { name = (same i).0; size = (same i).1 };
-    alike = λ r again same alike. alike_declared r.name again.name sort_is.Data (λ i. (same i).0) alike;
+    same = λ r again same facts i. fact_with (says_is.Declared sort_is.Data) (same i).0 [] ∷ facts i;
   })
 
   -- ---- declarations
@@ -118,7 +118,7 @@ module _ (s : Source) where
         fit = λ r. subst (AreFit s) (one_note_each r);
         words = λ r fit. refl;
         means = λ r again same i. decl_is.Params (same i);
-        alike = λ r again same alike. rw (one_note_each r, one_note_each again) alike;
+        same = λ r again same facts. same_by s.texts s.written (one_note_each again) (one_note_each r) facts;
       })
 
   index_written : AreWritten s syntax.index decl_as
@@ -132,16 +132,16 @@ module _ (s : Source) where
             index_line (sized_words (shown names) (text_of s.texts r.0.name) (head_of s.texts names r.0.size)) (term_words (shown names) [] (head_of s.texts names r.1.0))
             (term_words (shown names) [] (head_of s.texts names r.1.1.0)) (trend_words r.1.1.1);
         means = λ r again same i. decl_is.Index (same i).0.0 (same i).0.1 (same i).1.0 (same i).1.1.0 (same i).1.1.1;
-        alike = λ r again same alike.
-            alike_declared r.0.name again.0.name sort_is.Index (λ i. (same i).0.0)
-            (rw (three_notes (head_notes r.0.size) (head_notes r.1.0) (head_notes r.1.1.0), three_notes (head_notes again.0.size) (head_notes again.1.0) (head_notes again.1.1.0)) alike);
+        same = λ r again same facts.
+            let all = same_by s.texts s.written (three_notes (head_notes again.0.size) (head_notes again.1.0) (head_notes again.1.1.0)) (three_notes (head_notes r.0.size) (head_notes r.1.0) (head_notes r.1.1.0)) facts in
+            λ i. fact_with (says_is.Declared sort_is.Index) (same i).0.0 [] ∷ all i;
       })
 
   values_written : AreWritten s syntax.values decl_as
   unfolding syntax.values
   values_written =
       made_of (led_by (small_fixed bundle_words kind.Data (codes "data") refl refl) (ended_by semicolon (parted_by comma (record { form = syntax.sized; of = cells_as; again = cells_written })))) decl_as raw_decl.Values
-      (record { fit = λ r fit. fit; words = λ r fit. refl; means = λ r again same i. decl_is.Values (same i); alike = λ r again same alike. alike })
+      (record { fit = λ r fit. fit; words = λ r fit. refl; means = λ r again same i. decl_is.Values (same i); same = λ r again same facts. facts })
 
   pub decl_written : AreWritten s syntax.decl decl_as
   unfolding syntax.decl

@@ -1,79 +1,65 @@
 -- The printed words of a part of an index expression, as tokens of the printed text, and the sums that they make.
-use Rattle.std.proofs.Common.{◌≡◌, ℕ, ℤ, pos, ◌+ℤ◌, ◌+◌, ◌≤◌, Bool, List, [], ◌∷◌, ◌++◌, length, map, flat_map, fold, is_some, refl, ap, sym, ◌∙◌, arith, append_assoc}
+use Rattle.std.proofs.Common.{◌≡◌, ℕ, ℤ, pos, ◌+ℤ◌, ◌+◌, ◌≤◌, Bool, List, [], ◌∷◌, ◌++◌, length, length-append, map, flat_map, fold, is_some, refl, ap, sym, ◌∙◌, arith, append_assoc}
 use Rattle.std.specs.List.{AllByRecursion}
 use Rattle.std.proofs.lemmas.Int.{ints}
-use Rattle.std.proofs.lemmas.List.Sums.{sum_by-append}
 use Rattle.spf_base.specs.Wrap.{wrap}
 use Rattle.spf_lex.specs.Derivation.{Derivation}
 use Rattle.spf_lex.specs.Grammar.{Many}
 use Rattle.spf_lex.specs.Language.{Lexed}
 use Rattle.spf_lex.specs.declared.kind.Kind.{Kind}
-use Rattle.spf_lex.proofs.Leaves.{Leaves, join_each}
+use Rattle.spf_lex.proofs.Leaves.{Leaves}
 use Rattle.spf_lex.proofs.PrintedWords.{Holds, holds_both, behind_part, none_more, one_more, in_words}
 use Rattle.spf_term.specs.declared.term.Term.{Term, roll-Term}
 use Rattle.spf_term.specs.declared.term.Mono.{Mono}
-use Rattle.spf_kernel.specs.declared.note.Note.{Note}
+use Rattle.spf_lex.specs.declared.cursor.Token.{Token}
 use Rattle.spf_kernel.specs.declared.note.Spot.{Spot}
 use Rattle.spf_kernel.specs.declared.note.Scope.{Scope}
 use Rattle.spf_kernel.specs.declared.raw.RawIx.{RawIx, roll-RawIx, out-roll-RawIx}
 use Rattle.spf_kernel.specs.declared.raw.RawStep.{RawStep}
 use Rattle.spf_kernel.specs.declared.raw.RawAtom.{RawAtom}
 use Rattle.spf_kernel.specs.declared.raw.RawMono.{RawMono}
+use Rattle.spf_kernel.specs.Productions as syntax
+use Rattle.spf_kernel.specs.Facts.{Fact, facts_of}
 use Rattle.spf_kernel.specs.Names.{Names}
-use Rattle.spf_kernel.specs.Notes.{ix_notes, mono_notes}
+use Rattle.spf_kernel.specs.Notes.{ix_notes, mono_notes, ix_monomials, mono_monomials}
 use Rattle.spf_kernel.specs.Printed.{sign_word, lead_words, term_words}
 use Rattle.spf_kernel.specs.Productions.{Syntax}
-use Rattle.spf_kernel.specs.Productions as syntax
 use Rattle.spf_kernel.specs.Resolved.{alone_of, constant_of, monos_of, term_of}
-use Rattle.spf_kernel.specs.Rules.{is_monomial, count_that}
-use Rattle.spf_kernel.proofs.Alike.{told_append}
-use Rattle.spf_kernel.proofs.NoteEquations.{step_notes, ix_notes_are}
+use Rattle.spf_kernel.proofs.NoteEquations.{step_notes, ix_notes_are, ix_monomials_are, step_monomials}
 use Rattle.spf_kernel.proofs.TermEquations.{step_monos, term_is}
-use Rattle.spf_kernel.proofs.Told.{Told, told, IsSmall}
-use Rattle.spf_kernel.proofs.Written.{in_scope, AreText, IsLeaf, Context, names_in, Meaning, source, AreFit}
+use Rattle.spf_kernel.proofs.Written.{in_scope, AreText, IsLeaf, Context, names_in, Meaning, source, AreFit, facts_append}
 use Rattle.spf_kernel.proofs.WrittenSigns.{sign_written, lead_written}
 
--- the notes, of these written words, tell this; their numbers are small, and they are of at most so many monomials
-pub record AreInside (written : List (List ℕ)) (tellings : List Told) (count : ℕ) (notes : List Note) : Type 0 where
-  pub same : told written notes ≡ tellings
-  pub small : AllByRecursion IsSmall notes
-  pub few : count_that is_monomial notes ≤ count
+-- what a part of an index expression means, and the monomials in it
+pub record Inside (R A : Type 0) : Type 0 where
+  pub of : Meaning R A
+  pub monomials : R → List Token
 
-pub monomials_both : (xs ys : List Note) → count_that is_monomial (xs ++ ys) ≡ count_that is_monomial xs + count_that is_monomial ys
-monomials_both xs ys = sum_by-append _ xs ys
-
-inside_both : {written : List (List ℕ)} {tellings telling : List Told} {count others : ℕ} {xs ys : List Note} → AreInside written tellings count xs → AreInside written telling others ys
-    → AreInside written (tellings ++ telling) (count + others) (xs ++ ys)
-inside_both {written} {xs = xs} {ys = ys} first second = record {
-  same = told_append written xs ys ∙ (λ i. first.same i ++ second.same i);
-  small = join_each IsSmall xs ys first.small second.small;
-  few = omega (arith, monomials_both xs ys, first.few, second.few);
-}
-
--- the words, as tokens from number `at` on, mean the part again; their notes tell the same and are of no more monomials
-pub record IsWrittenInside (c : Context) {R A : Type 0} (p : Syntax R) (of : Meaning R A) (part : A) (words : List (List ℕ)) (others : List Note) (at : ℕ) : Type 0 where
+-- the words, as tokens from number `at` on, mean the part again, with these facts and no more monomials
+pub record IsWrittenInside (c : Context) {R A : Type 0} (p : Syntax R) (x : Inside R A) (part : A) (words : List (List ℕ)) (facts : List Fact) (count : ℕ) (at : ℕ) : Type 0 where
   pub text : AreText p.shape.grammar words at
-  pub means : of.means_again (p.make text.derivation) ≡ part
-  pub inside : AreInside c.written (told c.texts others) (count_that is_monomial others) (of.notes_again (p.make text.derivation))
+  pub means : x.of.means_again (p.make text.derivation) ≡ part
+  pub same : facts_of c.written (x.of.notes_again (p.make text.derivation)) ≡ facts
+  pub few : length (x.monomials (p.make text.derivation)) ≤ count
 
--- told by an equal part, equal words and equal notes
-pub told_as : {c : Context} {R A : Type 0} {p : Syntax R} {of : Meaning R A} {part whole : A} {words all : List (List ℕ)} {others more : List Note} {at : ℕ} → part ≡ whole → words ≡ all → others ≡ more
-    → IsWrittenInside c p of part words others at → IsWrittenInside c p of whole all more at
-told_as same_part same_words same_notes is = record { text = in_words same_words is.text; means = is.means ∙ same_part; inside = rw (← same_notes) is.inside }
+-- told by an equal part, equal words, equal facts and no more monomials
+pub told_as : {c : Context} {R A : Type 0} {p : Syntax R} {x : Inside R A} {part whole : A} {words all : List (List ℕ)} {facts others : List Fact} {count n : ℕ} {at : ℕ} → part ≡ whole → words ≡ all → facts ≡ others → count ≤ n
+    → IsWrittenInside c p x part words facts count at → IsWrittenInside c p x whole all others n at
+told_as same_part same_words same_facts fewer is = record { text = in_words same_words is.text; means = is.means ∙ same_part; same = is.same ∙ same_facts; few = omega (arith, is.few, fewer) }
 
 -- this raw tree is so written again, as the words that it is printed as
-abbrev pub IsAgainInside : (c : Context) {R A : Type 0} → Syntax R → Meaning R A → R → ℕ → Type 0
-IsAgainInside c p of raw at = IsWrittenInside c p of (of.means raw) (of.words (of.means raw)) (of.notes raw) at
+abbrev pub IsAgainInside : (c : Context) {R A : Type 0} → Syntax R → Inside R A → R → ℕ → Type 0
+IsAgainInside c p x raw at = IsWrittenInside c p x (x.of.means raw) (x.of.words (x.of.means raw)) (facts_of c.texts (x.of.notes raw)) (length (x.monomials raw)) at
 
 -- each text of the production whose notes are fit is, where its words stand
-abbrev pub AreWrittenInside : (c : Context) {R A : Type 0} → Syntax R → Meaning R A → Type 0
-AreWrittenInside c p of =
-    (d : Derivation (Lexed Kind) p.shape.grammar) → Leaves (IsLeaf c.texts) p.shape.grammar d → AreFit (source c) (of.notes (p.make d)) → (at : ℕ)
-    → Holds c.written at (of.words (of.means (p.make d))) → IsAgainInside c p of (p.make d) at
+abbrev pub AreWrittenInside : (c : Context) {R A : Type 0} → Syntax R → Inside R A → Type 0
+AreWrittenInside c p x =
+    (d : Derivation (Lexed Kind) p.shape.grammar) → Leaves (IsLeaf c.texts) p.shape.grammar d → AreFit (source c) (x.of.notes (p.make d)) → (at : ℕ)
+    → Holds c.written at (x.of.words (x.of.means (p.make d))) → IsAgainInside c p x (p.make d) at
 
 -- the meaning of an index expression
-abbrev pub sum_as : Context → Spot → Meaning RawIx Term
-sum_as c spot = in_scope c term_of (ix_notes spot) term_words
+abbrev pub sum_as : Context → Spot → Inside RawIx Term
+sum_as c spot = record { of = in_scope c term_of (ix_notes spot) term_words; monomials = ix_monomials }
 
 -- ---- monomials one behind another
 
@@ -85,6 +71,9 @@ made_of steps = roll-RawIx (record { steps = steps })
 
 pub made_notes : (spot : Spot) (scope : Scope) (steps : List RawStep) → ix_notes spot scope (made_of steps) ≡ flat_map (step_notes spot scope) steps
 made_notes spot scope steps = ix_notes_are spot scope (made_of steps) ∙ (λ i. flat_map (step_notes spot scope) (out-roll-RawIx (record { steps = steps }) i).steps)
+
+pub made_monomials : (steps : List RawStep) → ix_monomials (made_of steps) ≡ flat_map step_monomials steps
+made_monomials steps = ix_monomials_are (made_of steps) ∙ (λ i. flat_map step_monomials (out-roll-RawIx (record { steps = steps }) i).steps)
 
 -- the constant before it is wrapped
 made_constant : (steps : List RawStep) → constant_of (made_of steps) ≡ total_of (pos 0) steps
@@ -98,13 +87,13 @@ made_term texts names scope steps =
 
 -- ---- items, which monomials are printed as
 
--- a sign and the words behind it, what they give as monomials and as a number, and what their notes tell
+-- a sign and the words behind it, what they give as monomials and as a number, and their facts
 pub record Item : Type 0 where
   pub minus : Bool
   pub words : List (List ℕ)
   pub given : List Mono
   pub number : ℤ
-  pub tellings : List Told
+  pub facts : List Fact
   pub count : ℕ  -- at most so many monomials
 
 -- what items give one behind another
@@ -112,13 +101,13 @@ pub record Total : Type 0 where
   pub words : List (List ℕ)
   pub given : List Mono
   pub number : ℤ
-  pub tellings : List Told
+  pub facts : List Fact
 
 abbrev pub first_added : Item → Total → Total
-first_added x rest = record { words = (sign_word x.minus ∷ x.words) ++ rest.words; given = x.given ++ rest.given; number = x.number +ℤ rest.number; tellings = x.tellings ++ rest.tellings }
+first_added x rest = record { words = (sign_word x.minus ∷ x.words) ++ rest.words; given = x.given ++ rest.given; number = x.number +ℤ rest.number; facts = x.facts ++ rest.facts }
 
 abbrev pub total : List Item → Total
-total [] = record { words = []; given = []; number = pos 0; tellings = [] }
+total [] = record { words = []; given = []; number = pos 0; facts = [] }
 total (x ∷ xs) = first_added x (total xs)
 
 abbrev pub count_of : List Item → ℕ
@@ -126,10 +115,10 @@ count_of [] = 0
 count_of (x ∷ xs) = x.count + count_of xs
 
 abbrev pub both_totals : Total → Total → Total
-both_totals t u = record { words = t.words ++ u.words; given = t.given ++ u.given; number = t.number +ℤ u.number; tellings = t.tellings ++ u.tellings }
+both_totals t u = record { words = t.words ++ u.words; given = t.given ++ u.given; number = t.number +ℤ u.number; facts = t.facts ++ u.facts }
 
 pub total_append : (xs ys : List Item) → total (xs ++ ys) ≡ both_totals (total xs) (total ys)
-total_append [] ys = λ i. record { words = (total ys).words; given = (total ys).given; number = nothing_added i; tellings = (total ys).tellings } where
+total_append [] ys = λ i. record { words = (total ys).words; given = (total ys).given; number = nothing_added i; facts = (total ys).facts } where
   nothing_added : (total ys).number ≡ pos 0 +ℤ (total ys).number
   nothing_added = omega (arith, ints)
 total_append (x ∷ xs) ys =
@@ -141,7 +130,7 @@ total_append (x ∷ xs) ys =
       words = sym (append_assoc (sign_word x.minus ∷ x.words) t.words u.words) i;
       given = sym (append_assoc x.given t.given u.given) i;
       number = sum i;
-      tellings = sym (append_assoc x.tellings t.tellings u.tellings) i;
+      facts = sym (append_assoc x.facts t.facts u.facts) i;
     })
 
 pub count_append : (xs ys : List Item) → count_of (xs ++ ys) ≡ count_of xs + count_of ys
@@ -157,7 +146,8 @@ module _ (c : Context) (spot : Spot) (a : Syntax RawAtom) where
     pub text : AreText (syntax.mono a).shape.grammar x.words at
     pub gives : monos x.minus ((syntax.mono a).make text.derivation) ≡ x.given
     pub total : alone_of x.minus ((syntax.mono a).make text.derivation) ≡ x.number
-    pub inside : AreInside c.written x.tellings x.count (mono_notes spot c.again ((syntax.mono a).make text.derivation))
+    pub same : facts_of c.written (mono_notes spot c.again ((syntax.mono a).make text.derivation)) ≡ x.facts
+    pub few : length (mono_monomials ((syntax.mono a).make text.derivation)) ≤ x.count
 
   abbrev pub IsReadable : Item → Type 0
   IsReadable x = (at : ℕ) → Holds c.written at x.words → IsRead x at
@@ -167,22 +157,25 @@ module _ (c : Context) (spot : Spot) (a : Syntax RawAtom) where
     text : AreText (Many (syntax.next_step a).shape.grammar) t.words at
     gives : flat_map (step_monos c.written (names_in c) c.again) (map (syntax.next_step a).make text.derivation) ≡ t.given
     total : (start : ℤ) → total_of start (map (syntax.next_step a).make text.derivation) ≡ start +ℤ t.number
-    inside : AreInside c.written t.tellings count (flat_map (step_notes spot c.again) (map (syntax.next_step a).make text.derivation))
+    same : facts_of c.written (flat_map (step_notes spot c.again) (map (syntax.next_step a).make text.derivation)) ≡ t.facts
+    few : length (flat_map step_monomials (map (syntax.next_step a).make text.derivation)) ≤ count
 
   steps_read : (xs : List Item) → AllByRecursion IsReadable xs → (at : ℕ) → Holds c.written at (total xs).words → AreSteps (total xs) (count_of xs) at
   unfolding syntax.next_step
-  steps_read [] each at holds = record { text = none_more at; gives = refl; total = λ start. omega (arith, ints); inside = record { same = refl; small = tt; few = omega arith } }
+  steps_read [] each at holds = record { text = none_more at; gives = refl; total = λ start. omega (arith, ints); same = refl; few = omega arith }
   steps_read (x ∷ xs) each at holds =
       let stands = holds_both c.written at (sign_word x.minus ∷ x.words) (total xs).words holds in
       let front = sign_written x.minus at in
       let one = each.0 (at + 1) stands.0.1 in
       let behind = steps_read xs each.1 (at + length (sign_word x.minus ∷ x.words)) stands.1 in
       let mono = (syntax.mono a).make one.text.derivation in
+      let others = map (syntax.next_step a).make behind.text.derivation in
       record {
         text = one_more (behind_part front.text one.text) behind.text;
         gives = λ i. (ap (λ b. monos b mono) front.same ∙ one.gives) i ++ behind.gives i;
         total = λ start. behind.total (start +ℤ alone_of (is_some (syntax.sign.make front.text.derivation)) mono) ∙ omega (arith, ints, ap (λ b. alone_of b mono) front.same ∙ one.total);
-        inside = inside_both one.inside behind.inside;
+        same = facts_append c.written (mono_notes spot c.again mono) (flat_map (step_notes spot c.again) others) ∙ (λ i. one.same i ++ behind.same i);
+        few = omega (arith, length-append (mono_monomials mono) (flat_map step_monomials others), one.few, behind.few);
       }
 
   -- the words of a sum
@@ -190,24 +183,24 @@ module _ (c : Context) (spot : Spot) (a : Syntax RawAtom) where
   row_words x rest = (lead_words x.minus ++ x.words) ++ rest.words
 
   -- a sum of a first item and further ones means the term of what they give
-  pub row_read : (x : Item) (xs : List Item) → IsReadable x → AllByRecursion IsReadable xs → (part : Term) (notes : List Note) → part ≡ roll-Term (record { monos = x.given ++ (total xs).given; constant = wrap (x.number +ℤ (total xs).number) })
-      → x.tellings ++ (total xs).tellings ≡ told c.texts notes → x.count + count_of xs ≤ count_that is_monomial notes → (at : ℕ) → Holds c.written at (row_words x (total xs))
-      → IsWrittenInside c (syntax.sum a) (sum_as c spot) part (row_words x (total xs)) notes at
+  pub row_read : (x : Item) (xs : List Item) → IsReadable x → AllByRecursion IsReadable xs → (at : ℕ) → Holds c.written at (row_words x (total xs))
+      → IsWrittenInside c (syntax.sum a) (sum_as c spot) (roll-Term (record { monos = x.given ++ (total xs).given; constant = wrap (x.number +ℤ (total xs).number) })) (row_words x (total xs)) (x.facts ++ (total xs).facts) (x.count + count_of xs) at
   unfolding syntax.sum syntax.first_step
-  row_read x xs readable each part notes is same few at holds =
+  row_read x xs readable each at holds =
       let stands = holds_both c.written at (lead_words x.minus ++ x.words) (total xs).words holds in
       let front = lead_written x.minus at in
       let one = readable (at + length (lead_words x.minus)) (holds_both c.written at (lead_words x.minus) x.words stands.0).1 in
       let behind = steps_read xs each (at + length (lead_words x.minus ++ x.words)) stands.1 in
       let mono = (syntax.mono a).make one.text.derivation in
       let first = behind_part front.text one.text in
-      let steps = (syntax.first_step a).make first.derivation ∷ map (syntax.next_step a).make behind.text.derivation in
+      let others = map (syntax.next_step a).make behind.text.derivation in
+      let steps = (syntax.first_step a).make first.derivation ∷ others in
       let one_total = ap (λ b. alone_of b mono) front.same ∙ one.total in
       let sum : total_of (pos 0) steps ≡ x.number +ℤ (total xs).number = behind.total _ ∙ omega (arith, ints, one_total) in
-      let inside = inside_both one.inside behind.inside in
       record {
         text = behind_part first behind.text;
         means = made_term c.written (names_in c) c.again steps
-            ∙ ((λ i. roll-Term (record { monos = (ap (λ b. monos b mono) front.same ∙ one.gives) i ++ behind.gives i; constant = wrap (sum i) })) ∙ sym is);
-        inside = rw (made_notes spot c.again steps, sym same) (record { same = inside.same; small = inside.small; few = omega (arith, inside.few, few) });
+            ∙ (λ i. roll-Term (record { monos = (ap (λ b. monos b mono) front.same ∙ one.gives) i ++ behind.gives i; constant = wrap (sum i) }));
+        same = ap (facts_of c.written) (made_notes spot c.again steps) ∙ facts_append c.written (mono_notes spot c.again mono) (flat_map (step_notes spot c.again) others) ∙ (λ i. one.same i ++ behind.same i);
+        few = omega (arith, ap length (made_monomials steps), length-append (mono_monomials mono) (flat_map step_monomials others), one.few, behind.few);
       }

@@ -14,14 +14,15 @@ use Rattle.spf_kernel.specs.declared.raw.RawLoop.{RawLoop}
 use Rattle.spf_kernel.specs.declared.raw.RawKernel.{RawKernel}
 use Rattle.spf_kernel.specs.declared.tree.Tree.{Tree}
 use Rattle.spf_kernel.specs.declared.tree_names.TreeNames.{TreeNames}
+use Rattle.spf_kernel.specs.Productions as syntax
+use Rattle.spf_kernel.specs.Facts.{facts_of}
 use Rattle.spf_kernel.specs.Names.{Names, names_of}
 use Rattle.spf_kernel.specs.Notes.{decl_notes, head_notes, loop_notes, kernel_notes}
 use Rattle.spf_kernel.specs.Printed.{decl_words, term_words, loop_words, words_of}
-use Rattle.spf_kernel.specs.Productions as syntax
 use Rattle.spf_kernel.specs.Resolved.{decl_of, head_of, loop_of, tree_of}
 use Rattle.spf_kernel.specs.TreeNames.{names_in}
 use Rattle.spf_kernel.proofs.NamedLists.{params_found, tables_found, arrays_found}
-use Rattle.spf_kernel.proofs.Written.{IsLeaf, Source, shown, Meaning, AreFit, IsWritten, AreWritten}
+use Rattle.spf_kernel.proofs.Written.{IsLeaf, Source, shown, Meaning, AreFit, IsWritten, AreWritten, same_by}
 use Rattle.spf_kernel.proofs.WrittenDeclarations.{a_head, a_decl}
 use Rattle.spf_kernel.proofs.WrittenLoops.{a_loop}
 use Rattle.spf_kernel.proofs.WrittenParts.{◌&◌, led_by, ended_by, repeated, made_of}
@@ -43,7 +44,7 @@ words_with names tree =
 
 module _ (s : Source) where
   abbrev names : Names
-  names = names_of s.texts s.notes
+  names = names_of s.facts
 
   -- with names printed so
   abbrev kernel_as : (Tree → List (List ℕ)) → Meaning RawKernel Tree
@@ -68,15 +69,15 @@ module _ (s : Source) where
             kernel_line (flat_map (decl_words (shown names)) (map (decl_of s.texts names) r.0)) (term_words (shown names) [] (head_of s.texts names r.1.0))
             (flat_map (loop_words (shown names)) (map (loop_of s.texts names) r.1.1));
         means = λ r again same i. record { decls = (same i).0; steps = (same i).1.0; loops = (same i).1.1 };
-        alike = λ r again same alike. rw (all_notes (raw_of r), all_notes (raw_of again)) alike;
+        same = λ r again same facts. same_by s.texts s.written (all_notes (raw_of again)) (all_notes (raw_of r)) facts;
       })
 
 module _ (texts written : List (List ℕ)) (raw : RawKernel) where
   abbrev pub source_of : Source
-  source_of = record { texts = texts; written = written; notes = kernel_notes raw }
+  source_of = record { texts = texts; written = written; facts = facts_of texts (kernel_notes raw) }
 
   abbrev pub kernel_names : Names
-  kernel_names = names_of texts (kernel_notes raw)
+  kernel_names = names_of (facts_of texts (kernel_notes raw))
 
   -- a kernel, with names printed by the numbers that its own declarations give them
   abbrev pub whole : Meaning RawKernel Tree
@@ -100,4 +101,4 @@ kernel_written_again texts written d leaves fit at holds =
     let raw = syntax.kernel.make d in
     let same = words_shown texts written raw in
     let is = kernel_written (source_of texts written raw) d leaves fit at (subst (Holds written at) same holds) in
-    record { text = in_words (sym same) is.text; means = is.means; alike = is.alike }
+    record { text = in_words (sym same) is.text; means = is.means; same = is.same }

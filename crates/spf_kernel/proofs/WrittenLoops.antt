@@ -1,11 +1,12 @@
 -- Loops are written again, and what stands in their bodies.
-use Rattle.std.proofs.Common.{◌≡◌, ℕ, false, List, [], ◌∷◌, ◌++◌, map, flat_map, Some, None, refl, ap, sym, ◌∙◌, codes, append_assoc}
+use Rattle.std.proofs.Common.{◌≡◌, ℕ, false, List, [], ◌∷◌, ◌++◌, map, flat_map, refl, ap, sym, ◌∙◌, codes, append_assoc}
 use Rattle.spf_lex.specs.BundleWords.{bundle_words}
 use Rattle.spf_lex.specs.Production.{◌<$>◌, many}
 use Rattle.spf_lex.specs.declared.cursor.Token.{Token}
 use Rattle.spf_lex.specs.declared.kind.Kind.TheVariants as kind
 use Rattle.spf_lex.proofs.FixedWords.{small_fixed, symbol_fixed}
 use Rattle.spf_kernel.specs.declared.note.Sort.TheVariants as sort_is
+use Rattle.spf_kernel.specs.declared.note.Says.TheVariants as says_is
 use Rattle.spf_kernel.specs.declared.note.Spot.TheVariants as spot_is
 use Rattle.spf_kernel.specs.declared.raw.RawRange.{RawRange}
 use Rattle.spf_kernel.specs.declared.raw.RawPart.{RawPart}
@@ -18,17 +19,15 @@ use Rattle.spf_kernel.specs.declared.tree.Part.TheVariants as part_is
 use Rattle.spf_kernel.specs.declared.tree.Item.{Item}
 use Rattle.spf_kernel.specs.declared.tree.Item.TheVariants as item_is
 use Rattle.spf_kernel.specs.declared.tree.Loop.{Loop}
+use Rattle.spf_kernel.specs.Productions as syntax
+use Rattle.spf_kernel.specs.Facts.{text_of, fact_with}
 use Rattle.spf_kernel.specs.Names.{Names, names_of}
 use Rattle.spf_kernel.specs.Notes.{part_notes, item_notes, loop_notes}
 use Rattle.spf_kernel.specs.Printed.{part_words, range_words, item_words, loop_words}
-use Rattle.spf_kernel.specs.Productions as syntax
 use Rattle.spf_kernel.specs.Resolved.{term_of, part_of, item_of, loop_of}
-use Rattle.spf_kernel.specs.Rules.{text_of}
 use Rattle.spf_kernel.specs.Scopes.{nothing, within, inside}
-use Rattle.spf_kernel.proofs.Alike.{alike_declared, alike_variable}
 use Rattle.spf_kernel.proofs.Written.{in_source, Source, Context, shown, Meaning, AreWritten}
 use Rattle.spf_kernel.proofs.WrittenParts.{Behind, Written, either_written, ◌&◌, then_by, led_by, enclosed_by, repeated, a_name, made_of}
-use Rattle.spf_kernel.proofs.WrittenScopes.{nothing_scoped, within_scoped, inside_scoped}
 use Rattle.spf_kernel.proofs.WrittenStatements.{Range, braced, block_line, a_part, a_range}
 
 -- ---- loops
@@ -36,10 +35,10 @@ use Rattle.spf_kernel.proofs.WrittenStatements.{Range, braced, block_line, a_par
 module _ (s : Source) where
   -- no variable is in scope, those of a loop, or those of both loops
   abbrev pub outside : Context
-  outside = record { texts = s.texts; written = s.written; notes = s.notes; vars = []; scope = nothing; again = nothing; scoped = nothing_scoped s.texts s.written }
+  outside = record { texts = s.texts; written = s.written; facts = s.facts; scope = nothing; again = nothing; scoped = refl }
 
   abbrev names : Names
-  names = names_of s.texts s.notes
+  names = names_of s.facts
 
   -- between braces, a list of which each part has these words
   abbrev block_of : {A : Type 0} → (A → List (List ℕ)) → List A → List (List ℕ)
@@ -50,17 +49,16 @@ module _ (s : Source) where
     outer_vars = text_of s.texts outer ∷ []
 
     abbrev one_loop : Context
-    one_loop = record { texts = s.texts; written = s.written; notes = s.notes; vars = outer_vars; scope = within outer; again = within outer_again; scoped = within_scoped s.texts s.written outer outer_again same_outer }
+    one_loop = record { texts = s.texts; written = s.written; facts = s.facts; scope = within outer; again = within outer_again; scoped = λ i. same_outer i ∷ [] }
 
     abbrev two_loops : (inner inner_again : Token) → text_of s.written inner_again ≡ text_of s.texts inner → Context
     two_loops inner inner_again same = record {
       texts = s.texts;
       written = s.written;
-      notes = s.notes;
-      vars = text_of s.texts outer ∷ text_of s.texts inner ∷ [];
+      facts = s.facts;
       scope = inside outer inner;
       again = inside outer_again inner_again;
-      scoped = inside_scoped s.texts s.written outer outer_again same_outer inner inner_again same;
+      scoped = λ i. same_outer i ∷ same i ∷ [];
     }
 
     abbrev item_as : Meaning RawItem Item
@@ -85,7 +83,7 @@ module _ (s : Source) where
       fit = λ r fit. fit;
       words = λ r fit. ap (item_words (shown names) outer_vars) (part_as_item s.texts outer r) ∙ part_words_of_item (part_of s.texts names (within outer) r);
       means = λ r again same. part_as_item s.written outer_again again ∙ ap as_item same ∙ sym (part_as_item s.texts outer r);
-      alike = λ r again same alike. alike;
+      same = λ r again same facts. facts;
     })
 
     -- ---- inner loops
@@ -110,7 +108,7 @@ module _ (s : Source) where
               block_line (codes "for" ∷ range_words (shown names) outer_vars (text_of s.texts r.0.var) (term_of s.texts names (within outer) r.0.low) (term_of s.texts names (within outer) r.0.high))
               (flat_map (part_words (shown names) (text_of s.texts outer ∷ text_of s.texts r.0.var ∷ [])) (map (part_of s.texts names (inside outer r.0.var)) r.1));
           means = λ r again same i. item_is.Inner (same i).0.0 (same i).0.1.0 (same i).0.1.1 (same i).1;
-          alike = λ r again same alike. alike_variable r.0.var again.0.var (Some outer) (Some outer_again) (λ i. (same i).0.0) (λ i. Some (same_outer i)) alike;
+          same = λ r again same facts i. fact_with says_is.Variable (same i).0.0 (same_outer i ∷ []) ∷ facts i;
         })
 
     item_written : AreWritten s syntax.item item_as
@@ -153,8 +151,7 @@ module _ (s : Source) where
             (loop_line (range_words (shown names) [] (text_of s.texts outer) (term_of s.texts names nothing r.1.0.low) (term_of s.texts names nothing r.1.0.high))
             (flat_map (item_words (shown names) (text_of s.texts outer ∷ [])) (map (item_of s.texts names outer) r.1.1)));
         means = λ r again same i. record { name = (same i).0; var = (same i).1.0.0; low = (same i).1.0.1.0; high = (same i).1.0.1.1; items = (same i).1.1 };
-        alike = λ r again same alike.
-            alike_declared r.0 again.0 sort_is.Loop (λ i. (same i).0) (alike_variable r.1.0.var again.1.0.var None None (λ i. (same i).1.0.0) refl alike);
+        same = λ r again same facts i. fact_with (says_is.Declared sort_is.Loop) (same i).0 [] ∷ fact_with says_is.Variable (same i).1.0.0 [] ∷ facts i;
       })
 
   abbrev pub a_loop : Written s false RawLoop Loop

@@ -1,5 +1,5 @@
 -- Where the atoms are written again, so are the monomials and the sums of them.
-use Rattle.std.proofs.Common.{◌≡◌, ℕ, ℤ, pos, ◌+◌, ◌≤◌, ◌==◌, Bool, true, false, if◌then◌else◌, List, [], ◌∷◌, ◌++◌, map, flat_map, is_some, refl, ap, ◌∙◌, subst, arith, inl, inr, codes, decimal, unsigned_abs}
+use Rattle.std.proofs.Common.{suc, ◌≡◌, ℕ, ℤ, pos, ◌+◌, ◌≤◌, ◌==◌, Bool, true, false, if◌then◌else◌, List, [], ◌∷◌, ◌++◌, map, flat_map, is_some, refl, ap, ◌∙◌, subst, arith, inl, inr, codes, decimal, unsigned_abs, length, sym}
 use Rattle.std.specs.Int.{is_negative}
 use Rattle.std.specs.List.{AllByRecursion}
 use Rattle.std.proofs.lemmas.Bool.Decides.{nat_tests}
@@ -7,7 +7,6 @@ use Rattle.spf_base.specs.Wrap.{wrap}
 use Rattle.spf_lex.specs.BundleWords.{bundle_words}
 use Rattle.spf_lex.specs.Derivation.{Derivation}
 use Rattle.spf_lex.specs.Language.{Lexed}
-use Rattle.spf_lex.specs.declared.cursor.Token.{Token}
 use Rattle.spf_lex.specs.declared.kind.Kind.{Kind}
 use Rattle.spf_lex.specs.declared.kind.Kind.TheVariants as kind
 use Rattle.spf_lex.proofs.FixedWords.{symbol_fixed}
@@ -16,46 +15,38 @@ use Rattle.spf_lex.proofs.PrintedWords.{Holds, behind_word, behind_part, on_left
 use Rattle.spf_term.specs.declared.term.Atom.{Atom}
 use Rattle.spf_term.specs.declared.term.Mono.{Mono, roll-Mono}
 use Rattle.spf_kernel.specs.declared.note.Note.{Note}
-use Rattle.spf_kernel.specs.declared.note.Says.TheVariants.{Monomial, Number}
 use Rattle.spf_kernel.specs.declared.note.Spot.{Spot}
-use Rattle.spf_kernel.specs.declared.raw.RawAtom.{RawAtom, out-RawAtom}
-use Rattle.spf_kernel.specs.Notes.{note, mono_notes, atom_notes}
+use Rattle.spf_kernel.specs.declared.raw.RawAtom.{RawAtom}
+use Rattle.spf_kernel.specs.Productions as syntax
+use Rattle.spf_kernel.specs.Facts.{Fact, facts_of}
+use Rattle.spf_kernel.specs.Notes.{mono_notes, atom_notes, atom_monomials, number_notes}
 use Rattle.spf_kernel.specs.Printed.{mono_words, atom_words}
 use Rattle.spf_kernel.specs.Productions.{Syntax}
-use Rattle.spf_kernel.specs.Productions as syntax
 use Rattle.spf_kernel.specs.Resolved.{signed, atom_of}
-use Rattle.spf_kernel.specs.Rules.{is_monomial, count_that}
-use Rattle.spf_kernel.proofs.Counting.{first_more}
-use Rattle.spf_kernel.proofs.NoteEquations.{step_notes}
+use Rattle.spf_kernel.proofs.NamedUses.{IsFitting}
+use Rattle.spf_kernel.proofs.NoteEquations.{step_notes, number_fits, number_within}
 use Rattle.spf_kernel.proofs.PrintedConstants.{wrap_small, wrap_twice, signed_back, signed_size}
-use Rattle.spf_kernel.proofs.Told.{IsKept, told}
-use Rattle.spf_kernel.proofs.Written.{in_scope, IsLeaf, IsFixedWord, Context, names_in, shown_in, Meaning, source, AreFit}
-use Rattle.spf_kernel.proofs.WrittenInside.{IsAgainInside, AreWrittenInside, Item, IsRead, sum_as, made_notes}
+use Rattle.spf_kernel.proofs.Written.{in_scope, IsLeaf, IsFixedWord, Context, names_in, shown_in, source, AreFit, vars_in}
+use Rattle.spf_kernel.proofs.WrittenInside.{IsAgainInside, AreWrittenInside, Item, IsRead, sum_as, made_notes, Inside}
 use Rattle.spf_kernel.proofs.WrittenSigns.{number_written}
 use Rattle.spf_kernel.proofs.WrittenSums.{IsSource, AreSources, sum_again}
 
-atom_count : (spot : Spot) (token : Token) (notes : List Note) → count_that is_monomial (note token (Monomial spot) ∷ notes) ≡ count_that is_monomial notes + 1
-atom_count spot token notes = first_more is_monomial (note token (Monomial spot)) notes
-
-times_count : (spot : Spot) (token : Token) (notes : List Note) → count_that is_monomial (note token (Monomial spot) ∷ note token (Number true) ∷ notes) ≡ count_that is_monomial notes + 1
-times_count spot token notes = atom_count spot token (note token (Number true) ∷ notes) ∙ ap (λ n. n + 1) (first_more is_monomial (note token (Number true)) notes)
-
 -- the meaning of an atom
-abbrev pub atom_as : Context → Spot → Meaning RawAtom Atom
-atom_as c spot = in_scope c atom_of (atom_notes spot) atom_words
+abbrev pub atom_as : Context → Spot → Inside RawAtom Atom
+atom_as c spot = record { of = in_scope c atom_of (atom_notes spot) atom_words; monomials = atom_monomials }
 
 module _ (c : Context) (spot : Spot) (a : Syntax RawAtom) where
   abbrev given_of : RawAtom → Atom
   given_of x = atom_of c.texts (names_in c) c.scope x
 
   abbrev words_of_atom : RawAtom → List (List ℕ)
-  words_of_atom x = atom_words (shown_in c) c.vars (given_of x)
+  words_of_atom x = atom_words (shown_in c) (vars_in c) (given_of x)
 
   -- the words of the atom, where they stand, mean it again
   abbrev pub IsAtomAgain : RawAtom → Type 0
   IsAtomAgain x = (at : ℕ) → Holds c.written at (words_of_atom x) → IsAgainInside c a (atom_as c spot) x at
 
-  module _ (minus : Bool) (n : ℕ) (small : n ≤ 1048576) (x : RawAtom) (read : IsAtomAgain x) (count : ℕ) (counted : 1 + count_that is_monomial (atom_notes spot c.scope x) ≤ count) where
+  module _ (minus : Bool) (n : ℕ) (small : n ≤ 1048576) (x : RawAtom) (read : IsAtomAgain x) (facts : List Fact) (same_facts : facts_of c.texts (atom_notes spot c.scope x) ≡ facts) where
     abbrev coef : ℤ
     coef = wrap (signed minus n)
 
@@ -64,7 +55,7 @@ module _ (c : Context) (spot : Spot) (a : Syntax RawAtom) where
     given = roll-Mono (record { coef = coef; atom = given_of x })
 
     abbrev item_with : List (List ℕ) → Item
-    item_with words = record { minus = is_negative coef; words = words; given = given ∷ []; number = pos 0; tellings = told c.texts (atom_notes spot c.scope x); count = count }
+    item_with words = record { minus = is_negative coef; words = words; given = given ∷ []; number = pos 0; facts = facts; count = suc (length (atom_monomials x)) }
 
     abbrev IsAgainWith : List (List ℕ) → ℕ → Type 0
     IsAgainWith words at = IsRead c spot a (item_with words) at
@@ -80,16 +71,12 @@ module _ (c : Context) (spot : Spot) (a : Syntax RawAtom) where
     unfolding syntax.mono
     bare_again one at holds =
         let found = read at holds in
-        let raw = a.make found.text.derivation in
         record {
           text = on_right found.text;
           gives = λ i. roll-Mono (record { coef = same_coef 1 one i; atom = found.means i }) ∷ [];
           total = refl;
-          inside = record {
-            same = found.inside.same;
-            small = (tt, found.inside.small);
-            few = omega (arith, atom_count spot (out-RawAtom raw).name (atom_notes spot c.again raw), found.inside.few, counted);
-          };
+          same = found.same ∙ same_facts;
+          few = omega (arith, found.few);
         }
 
     -- another one, in front of a `*`
@@ -99,20 +86,16 @@ module _ (c : Context) (spot : Spot) (a : Syntax RawAtom) where
         let found = read (at + 1 + 1) holds.1.1 in
         let number = number_written (unsigned_abs coef) at (omega (arith, size)) in
         let token = syntax.number.make number.text.derivation in
-        let notes = atom_notes spot c.again (a.make found.text.derivation) in
         let star : IsFixedWord kind.Star (codes "*") = symbol_fixed bundle_words kind.Star (codes "*") refl refl in
         record {
           text = on_left (behind_part number.text (on_left (behind_word (at + 1) star found.text)));
           gives = λ i. roll-Mono (record { coef = same_coef token.value number.same i; atom = found.means i }) ∷ [];
           total = refl;
-          inside = record {
-            same = found.inside.same;
-            small = (tt, (omega (arith, number.same, size), found.inside.small));
-            few = omega (arith, times_count spot token notes, found.inside.few, counted);
-          };
+          same = ap (λ (notes : List Note). facts_of c.written (notes ++ atom_notes spot c.again (a.make found.text.derivation))) (number_fits true token (omega (arith, number.same, size))) ∙ found.same ∙ same_facts;
+          few = omega (arith, found.few);
         }
 
-    pub mono_again : (at : ℕ) → Holds c.written at (mono_words (shown_in c) c.vars given) → IsAgainWith (mono_words (shown_in c) c.vars given) at
+    pub mono_again : (at : ℕ) → Holds c.written at (mono_words (shown_in c) (vars_in c) given) → IsAgainWith (mono_words (shown_in c) (vars_in c) given) at
     mono_again = by (unsigned_abs coef == 1) refl where
       one : (k : ℕ) → (k == 1) ≡ true → 1 ≡ k
       one k e = grind (arith, nat_tests)
@@ -131,27 +114,31 @@ module _ (c : Context) (spot : Spot) (a : Syntax RawAtom) where
     mono_source minus (inl (number, inl (star, x))) leaves each =
         let token = syntax.number.make number in
         let raw = a.make x in
-        let all = mono_notes spot c.scope ((syntax.mono a).make (inl (number, inl (star, x)))) in
+        let parts = split_each (IsFitting c.texts c.facts) (number_notes true token) (atom_notes spot c.scope raw) each in
+        let small = number_within c.texts c.facts true token parts.0 in
         inr (record {
           given = roll-Mono (record { coef = wrap (signed minus token.value); atom = given_of raw });
           gives = refl;
           no_number = refl;
-          reads = mono_again minus token.value each.1.0.small raw (atoms x leaves.1.1 each.1.1) (count_that is_monomial all) (omega (arith, times_count spot token (atom_notes spot c.scope raw)));
+          reads = mono_again minus token.value small raw (atoms x leaves.1.1 parts.1) (facts_of c.texts (number_notes true token ++ atom_notes spot c.scope raw))
+              (sym (ap (λ (notes : List Note). facts_of c.texts (notes ++ atom_notes spot c.scope raw)) (number_fits true token small)));
         })
-    mono_source minus (inl (number, inr none)) leaves each = inl (record {
-      none = refl;
-      small = omega (arith, signed_size minus (syntax.number.make number).value, each.1.0.small);
-      untold = refl;
-      counts = omega arith;
-    })
+    mono_source minus (inl (number, inr none)) leaves each =
+        let token = syntax.number.make number in
+        let small = number_within c.texts c.facts false token each in
+        inl (record {
+          none = refl;
+          small = omega (arith, signed_size minus token.value, small);
+          untold = ap (facts_of c.texts) (number_fits false token small);
+          counts = omega arith;
+        })
     mono_source minus (inr x) leaves each =
         let raw = a.make x in
-        let all = mono_notes spot c.scope ((syntax.mono a).make (inr x)) in
         inr (record {
           given = roll-Mono (record { coef = wrap (signed minus 1); atom = given_of raw });
           gives = refl;
           no_number = refl;
-          reads = mono_again minus 1 (omega arith) raw (atoms x leaves each.1) (count_that is_monomial all) (omega (arith, atom_count spot (out-RawAtom raw).name (atom_notes spot c.scope raw)));
+          reads = mono_again minus 1 (omega arith) raw (atoms x leaves each) (facts_of c.texts (atom_notes spot c.scope raw)) refl;
         })
 
     further_sources : (ds : List (Derivation (Lexed Kind) (syntax.next_step a).shape.grammar)) → AllByRecursion (Leaves (IsLeaf c.texts) (syntax.next_step a).shape.grammar) ds
@@ -159,7 +146,7 @@ module _ (c : Context) (spot : Spot) (a : Syntax RawAtom) where
     unfolding Leaves syntax.next_step
     further_sources [] leaves each = tt
     further_sources (d ∷ ds) leaves each =
-        let parts = split_each (IsKept c.texts c.notes) (mono_notes spot c.scope ((syntax.mono a).make d.1)) (flat_map (step_notes spot c.scope) (map (syntax.next_step a).make ds)) each in
+        let parts = split_each (IsFitting c.texts c.facts) (mono_notes spot c.scope ((syntax.mono a).make d.1)) (flat_map (step_notes spot c.scope) (map (syntax.next_step a).make ds)) each in
         (mono_source (is_some (syntax.sign.make d.0)) d.1 leaves.0.1 parts.0, further_sources ds leaves.1 parts.1)
 
     -- where the atoms are written again, so is the sum
@@ -168,5 +155,5 @@ module _ (c : Context) (spot : Spot) (a : Syntax RawAtom) where
     sum_read (first, others) leaves each =
         let step = (syntax.first_step a).make first in
         let steps = map (syntax.next_step a).make others in
-        let parts = split_each (IsKept c.texts c.notes) (step_notes spot c.scope step) (flat_map (step_notes spot c.scope) steps) (subst (AreFit (source c)) (made_notes spot c.scope (step ∷ steps)) each) in
+        let parts = split_each (IsFitting c.texts c.facts) (step_notes spot c.scope step) (flat_map (step_notes spot c.scope) steps) (subst (AreFit (source c)) (made_notes spot c.scope (step ∷ steps)) each) in
         sum_again c spot a (step ∷ steps) (mono_source (is_some step.minus) first.1 leaves.0.1 parts.0, further_sources others leaves.1 parts.1) (omega arith)

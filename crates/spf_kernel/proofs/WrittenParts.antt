@@ -9,11 +9,11 @@ use Rattle.spf_lex.proofs.Leaves.{Leaves, split_each}
 use Rattle.spf_lex.proofs.PrintedWords.{Holds, holds_both, word_alone, behind_word, behind_part, on_left, on_right, none_more, one_more, in_words}
 use Rattle.spf_kernel.specs.declared.note.Note.{Note}
 use Rattle.spf_kernel.specs.Printed as printed
+use Rattle.spf_kernel.specs.Facts.{facts_of, text_of}
 use Rattle.spf_kernel.specs.Productions.{Syntax}
-use Rattle.spf_kernel.specs.Rules.{text_of}
-use Rattle.spf_kernel.proofs.Alike.{alike_none, alike_append}
-use Rattle.spf_kernel.proofs.Told.{Alike, IsKept}
-use Rattle.spf_kernel.proofs.Written.{Source, Meaning, AreWritten, AreFit, IsFixedWord, name_written}
+use Rattle.spf_kernel.proofs.Counting.{more}
+use Rattle.spf_kernel.proofs.NamedUses.{IsFitting}
+use Rattle.spf_kernel.proofs.Written.{Source, Meaning, AreWritten, AreFit, IsFixedWord, name_written, same_append}
 use Rattle.spf_kernel.proofs.WrittenSigns.{IsRead}
 
 -- with other words
@@ -78,8 +78,8 @@ pub record Follows (s : Source) {R S A B : Type 0} (of : Meaning R A) (all : Mea
   pub fit : (r : R) → AreFit s (all.notes (f r)) → AreFit s (of.notes r)
   pub words : (r : R) → AreFit s (all.notes (f r)) → all.words (all.means (f r)) ≡ of.words (of.means r)
   pub means : (r again : R) → of.means_again again ≡ of.means r → all.means_again (f again) ≡ all.means (f r)
-  pub alike : (r again : R) → of.means_again again ≡ of.means r → Alike s.texts s.written (of.notes r) (of.notes_again again)
-      → Alike s.texts s.written (all.notes (f r)) (all.notes_again (f again))
+  pub same : (r again : R) → of.means_again again ≡ of.means r → facts_of s.written (of.notes_again again) ≡ facts_of s.texts (of.notes r)
+      → facts_of s.written (all.notes_again (f again)) ≡ facts_of s.texts (all.notes (f r))
 
 module _ {s : Source} where
   pub made_written : {R S A B : Type 0} {empty : Bool} (p : Production same_kind empty R) (of : Meaning R A) (all : Meaning S B) (f : R → S) → Follows s of all f
@@ -91,7 +91,7 @@ module _ {s : Source} where
       record {
         text = in_words (sym words) is.text;
         means = follows.means raw (p.make is.text.derivation) is.means;
-        alike = follows.alike raw (p.make is.text.derivation) is.means is.alike;
+        same = follows.same raw (p.make is.text.derivation) is.means is.same;
       }
 
   pub then_written : {R S A B : Type 0} {one two : Bool} (p : Production same_kind one R) (q : Production same_kind two S) (of : Meaning R A) (more : Behind R S A B)
@@ -100,12 +100,12 @@ module _ {s : Source} where
   then_written p q of more first second (d, e) leaves fit at holds =
       let r = p.make d in
       let begun = of.words (of.means r) in
-      let parts = split_each (IsKept s.texts s.notes) (of.notes r) (more.notes r (q.make e)) fit in
+      let parts = split_each (IsFitting s.texts s.facts) (of.notes r) (more.notes r (q.make e)) fit in
       let stands = holds_both s.written at begun (more.words (of.means r) (more.means r (q.make e))) holds in
       let front = first d leaves.0 parts.0 at stands.0 in
       let again = p.make front.text.derivation in
       let back = second r again front.means e leaves.1 parts.1 (at + length begun) stands.1 in
-      record { text = behind_part front.text back.text; means = λ i. (front.means i, back.means i); alike = alike_append front.alike back.alike }
+      record { text = behind_part front.text back.text; means = λ i. (front.means i, back.means i); same = same_append s.texts s.written (of.notes_again again) (more.notes_again again (q.make back.text.derivation)) (of.notes r) (more.notes r (q.make e)) front.same back.same }
 
   pub both_written : {R S A B : Type 0} {one two : Bool} (p : Production same_kind one R) (q : Production same_kind two S) (of : Meaning R A) (more : Meaning S B)
       → AreWritten s p of → AreWritten s q more → AreWritten s (both p q) (pair_of of more)
@@ -117,7 +117,7 @@ module _ {s : Source} where
   unfolding Leaves
   led_written p of fixed one (led, d) leaves fit at holds =
       let behind = one d leaves.1 fit (at + 1) holds.1 in
-      record { text = behind_word at fixed behind.text; means = behind.means; alike = behind.alike }
+      record { text = behind_word at fixed behind.text; means = behind.means; same = behind.same }
 
   -- with a word of the grammar behind
   pub ended_written : {R A : Type 0} {empty : Bool} {k : Kind} {word : List ℕ} (p : Production same_kind empty R) (of : Meaning R A) → IsFixedWord k word → AreWritten s p of
@@ -126,7 +126,7 @@ module _ {s : Source} where
   ended_written {word = word} p of fixed one (d, end) leaves fit at holds =
       let words = of.words (of.means (p.make d)) in
       let front = one d leaves.0 fit at (holds_both s.written at words (word ∷ []) holds).0 in
-      record { text = behind_part front.text (word_alone (at + length words) fixed); means = front.means; alike = front.alike }
+      record { text = behind_part front.text (word_alone (at + length words) fixed); means = front.means; same = front.same }
 
   pub between_written : {R A : Type 0} {empty : Bool} {k l : Kind} {first last : List ℕ} (p : Production same_kind empty R) (of : Meaning R A) → IsFixedWord k first → IsFixedWord l last → AreWritten s p of
       → AreWritten s (between k l p) (worded of (λ x. first ∷ (of.words x ++ last ∷ [])))
@@ -138,27 +138,27 @@ module _ {s : Source} where
   unfolding Leaves
   either_written p q of left right (inl d) leaves fit at holds =
       let is = left d leaves fit at holds in
-      record { text = on_left is.text; means = is.means; alike = is.alike }
+      record { text = on_left is.text; means = is.means; same = is.same }
   either_written p q of left right (inr d) leaves fit at holds =
       let is = right d leaves fit at holds in
-      record { text = on_right is.text; means = is.means; alike = is.alike }
+      record { text = on_right is.text; means = is.means; same = is.same }
 
   -- ---- lists
 
   pub many_written : {R A : Type 0} (p : Syntax R) (of : Meaning R A) → AreWritten s p of → AreWritten s (many p) (each_of of (flat_map of.words))
   unfolding Leaves
-  many_written p of one [] leaves fit at holds = record { text = none_more at; means = refl; alike = alike_none }
+  many_written p of one [] leaves fit at holds = record { text = none_more at; means = refl; same = refl }
   many_written p of one (d ∷ ds) leaves fit at holds =
       let raw = p.make d in
       let begun = of.words (of.means raw) in
-      let parts = split_each (IsKept s.texts s.notes) (of.notes raw) (flat_map of.notes (map p.make ds)) fit in
+      let parts = split_each (IsFitting s.texts s.facts) (of.notes raw) (flat_map of.notes (map p.make ds)) fit in
       let stands = holds_both s.written at begun (flat_map of.words (map of.means (map p.make ds))) holds in
       let first = one d leaves.0 parts.0 at stands.0 in
       let others = many_written p of one ds leaves.1 parts.1 (at + length begun) stands.1 in
       record {
         text = one_more first.text others.text;
         means = λ i. first.means i ∷ others.means i;
-        alike = alike_append first.alike others.alike;
+        same = same_append s.texts s.written (of.notes_again (p.make first.text.derivation)) (flat_map of.notes_again (map p.make others.text.derivation)) (of.notes raw) (flat_map of.notes (map p.make ds)) first.same others.same;
       }
 
   -- a text of one production, and then texts of another
@@ -167,14 +167,14 @@ module _ {s : Source} where
   unfolding Leaves
   row_written p q of further one others d leaves fit at holds =
       let is = both_written p (many q) of (each_of of (flat_map further)) one (many_written q (worded of further) others) d leaves fit at holds in
-      record { text = is.text; means = λ i. (is.means i).0 ∷ (is.means i).1; alike = is.alike }
+      record { text = is.text; means = λ i. (is.means i).0 ∷ (is.means i).1; same = is.same }
 
   -- with a word of the grammar between two
   pub separated_written : {R A : Type 0} {k : Kind} {word : List ℕ} (p : Syntax R) (of : Meaning R A) → IsFixedWord k word → AreWritten s p of
       → AreWritten s (separated k p) (each_of of (printed.separated word of.words))
   separated_written {k = k} {word} p of fixed one d leaves fit at holds =
       let is = row_written p (behind k p) of (λ x. word ∷ of.words x) one (led_written p of fixed one) d leaves fit at holds in
-      record { text = is.text; means = is.means; alike = is.alike }
+      record { text = is.text; means = is.means; same = is.same }
 
   -- ---- tokens
 
@@ -182,13 +182,13 @@ module _ {s : Source} where
       → AreWritten s p (sign_as means words)
   sign_written p means words reads d leaves fit at holds =
       let is = reads (p.make d) at in
-      record { text = is.text; means = ap means is.same; alike = alike_none }
+      record { text = is.text; means = ap means is.same; same = refl }
 
   pub any_name_written : AreWritten s (token kind.Name) (name_as s)
   unfolding Leaves
   any_name_written name leaf fit at holds =
       let is = name_written s.texts s.written name (text_of s.texts name.token) at leaf refl holds.0 in
-      record { text = word_alone at is.fixed; means = is.same; alike = alike_none }
+      record { text = word_alone at is.fixed; means = is.same; same = refl }
 
 -- ---- parts that are written again, put together
 

@@ -10,8 +10,8 @@ use Rattle.spf_kernel.specs.declared.tree.Compare.{Compare}
 use Rattle.spf_kernel.specs.declared.tree.Compare.TheVariants.{Equal, Unequal, Less, AtMost, Greater, AtLeast}
 use Rattle.spf_kernel.specs.declared.tree.Trend.{Trend}
 use Rattle.spf_kernel.specs.declared.tree.Trend.TheVariants.{Free, Monotone, Strict}
-use Rattle.spf_kernel.specs.Printed.{sign_word, lead_words, becomes_word, compare_word, trend_words}
 use Rattle.spf_kernel.specs.Productions as syntax
+use Rattle.spf_kernel.specs.Printed.{sign_word, lead_words, becomes_word, compare_word, trend_words}
 use Rattle.spf_kernel.specs.Resolved.{becomes}
 use Rattle.spf_kernel.proofs.Written.{AreText, IsFixedWord}
 

@@ -22,16 +22,16 @@ use Rattle.spf_kernel.specs.declared.tree.Cond.{Cond}
 use Rattle.spf_kernel.specs.declared.tree.Guard.{Guard}
 use Rattle.spf_kernel.specs.declared.tree.Part.{Part}
 use Rattle.spf_kernel.specs.declared.tree.Part.TheVariants as part_is
-use Rattle.spf_kernel.specs.Names.{Names, number_of}
-use Rattle.spf_kernel.specs.Notes.{expression_notes, assign_notes, cond_notes, guard_notes, part_notes}
-use Rattle.spf_kernel.specs.Printed.{term_words, value_words, becomes_word, compare_word, assign_words, cond_words, guard_words, part_words, range_words}
 use Rattle.spf_kernel.specs.Printed as printed
 use Rattle.spf_kernel.specs.Productions as syntax
+use Rattle.spf_kernel.specs.Facts.{fact_of, text_of, fact_with}
+use Rattle.spf_kernel.specs.Names.{Names, number_of}
+use Rattle.spf_kernel.specs.Notes.{expression_notes, assign_notes, cond_notes, guard_notes, part_notes, conds_head, ix_head, mark}
+use Rattle.spf_kernel.specs.Printed.{term_words, value_words, becomes_word, compare_word, assign_words, cond_words, guard_words, part_words, range_words}
 use Rattle.spf_kernel.specs.Resolved.{becomes, term_of, value_of, assign_of, cond_of, guard_of, part_of}
-use Rattle.spf_kernel.specs.Rules.{is_data, takes_data, text_of}
-use Rattle.spf_kernel.proofs.Alike.{alike_said, alike_used}
+use Rattle.spf_kernel.specs.Rules.{is_data, takes_data}
 use Rattle.spf_kernel.proofs.NamedNumbers.{number_declared}
-use Rattle.spf_kernel.proofs.Written.{in_scope, IsFixedWord, Source, Context, source, names_in, shown_in, Meaning, AreWritten}
+use Rattle.spf_kernel.proofs.Written.{in_scope, IsFixedWord, Source, Context, source, names_in, shown_in, Meaning, AreWritten, vars_in}
 use Rattle.spf_kernel.proofs.WrittenParts.{Written, either_written, ◌&◌, led_by, ended_by, enclosed_by, repeated, parted_by, a_sign, a_name, made_of}
 use Rattle.spf_kernel.proofs.WrittenSigns.{becomes_written, compare_written}
 use Rattle.spf_kernel.proofs.WrittenTerms.{open_bracket, close_bracket, ix_as, ix_written}
@@ -62,14 +62,14 @@ abbrev pub braced : {s : Source} {R A : Type 0} {empty : Bool} → Written s emp
 braced x = enclosed_by open_brace close_brace x
 
 -- an index expression
-abbrev pub an_ix : (c : Context) (spot : Spot) → takes_data c.texts spot ≡ false → ℕ → Written (source c) false RawIx Term
+abbrev pub an_ix : (c : Context) (spot : Spot) → takes_data spot ≡ false → ℕ → Written (source c) false RawIx Term
 an_ix c spot no_data depth = record { form = syntax.ix depth; of = ix_as c spot; again = ix_written c spot no_data depth }
 
-pub sized_by : (c : Context) (spot : Spot) (no_data : takes_data c.texts spot ≡ false) → AreWritten (source c) syntax.in_brackets (bracketed (an_ix c spot no_data 4)).of
+pub sized_by : (c : Context) (spot : Spot) (no_data : takes_data spot ≡ false) → AreWritten (source c) syntax.in_brackets (bracketed (an_ix c spot no_data 4)).of
 unfolding syntax.in_brackets
 sized_by c spot no_data = (bracketed (an_ix c spot no_data 4)).again
 
-abbrev pub a_size : (c : Context) (spot : Spot) → takes_data c.texts spot ≡ false → Written (source c) false RawIx Term
+abbrev pub a_size : (c : Context) (spot : Spot) → takes_data spot ≡ false → Written (source c) false RawIx Term
 a_size c spot no_data = record { form = syntax.in_brackets; of = (bracketed (an_ix c spot no_data 4)).of; again = sized_by c spot no_data }
 
 -- words in front of a block
@@ -110,13 +110,13 @@ module _ (c : Context) where
       (record {
         fit = λ r fit. fit.1;
         words = λ r fit.
-            let sub = term_words (shown_in c) c.vars (term_of c.texts names c.scope r.1.0) in
-            let value = value_words (shown_in c) c.vars (value_of c.texts names c.scope r.1.1.1) in
+            let sub = term_words (shown_in c) (vars_in c) (term_of c.texts names c.scope r.1.0) in
+            let value = value_words (shown_in c) (vars_in c) (value_of c.texts names c.scope r.1.1.1) in
             let sign = becomes_word (becomes r.1.1.0) in
-            ap (λ (array : List ℕ). (array ∷ codes "[" ∷ sub ++ codes "]" ∷ []) ++ sign ∷ value ++ codes ";" ∷ []) (number_declared c.texts is_data c.notes r.0 fit.0.fits).named
+            ap (λ (array : List ℕ). (array ∷ codes "[" ∷ sub ++ codes "]" ∷ []) ++ sign ∷ value ++ codes ";" ∷ []) (number_declared is_data c.facts (text_of c.texts r.0) fit.0).named
             ∙ assign_line (text_of c.texts r.0) sign sub value;
         means = λ r again same i. record { array = number_of names.data_arrays (same i).0; sub = (same i).1.0; sign = (same i).1.1.0; value = (same i).1.1.1 };
-        alike = λ r again same alike. alike_used r.0 again.0 true spot_is.Target c.scope c.again (λ i. (same i).0) c.scoped.outer c.scoped.inner alike;
+        same = λ r again same facts i. fact_with (says_is.Used true spot_is.Target) (same i).0 (c.scoped i) ∷ facts i;
       })
 
   abbrev an_assign : Written s false RawAssign Assign
@@ -135,7 +135,7 @@ module _ (c : Context) where
         fit = λ r fit. fit.1;
         words = λ r fit. refl;
         means = λ r again same i. record { left = (same i).0; sign = (same i).1.0; right = (same i).1.1 };
-        alike = λ r again same alike. alike_said _ _ says_is.Condition refl alike;
+        same = λ r again same facts i. fact_of c.texts (mark (ix_head r.0) says_is.Condition) ∷ facts i;
       })
 
   abbrev a_cond : Written s false RawCond Cond
@@ -151,10 +151,10 @@ module _ (c : Context) where
       (record {
         fit = λ r fit. fit.1;
         words = λ r fit.
-            let conds = printed.separated (codes "and") (cond_words (shown_in c) c.vars) (map (cond_of c.texts names c.scope) r.0) in
-            block_line (codes "if" ∷ conds) (flat_map (assign_words (shown_in c) c.vars) (map (assign_of c.texts names c.scope) r.1));
+            let conds = printed.separated (codes "and") (cond_words (shown_in c) (vars_in c)) (map (cond_of c.texts names c.scope) r.0) in
+            block_line (codes "if" ∷ conds) (flat_map (assign_words (shown_in c) (vars_in c)) (map (assign_of c.texts names c.scope) r.1));
         means = λ r again same i. record { conds = (same i).0; body = (same i).1 };
-        alike = λ r again same alike. alike_said _ _ says_is.Guard refl alike;
+        same = λ r again same facts i. fact_of c.texts (mark (conds_head r.0) says_is.Guard) ∷ facts i;
       })
 
   abbrev a_guard : Written s false RawGuard Guard
@@ -169,8 +169,8 @@ module _ (c : Context) where
   unfolding syntax.part
   part_written =
       either_written (raw_part.Assign <$> syntax.assign) (raw_part.Guard <$> syntax.guard) part_as
-      (made_of an_assign part_as raw_part.Assign (record { fit = λ r fit. fit; words = λ r fit. refl; means = λ r again same. ap part_is.Assign same; alike = λ r again same alike. alike }))
-      (made_of a_guard part_as raw_part.Guard (record { fit = λ r fit. fit; words = λ r fit. refl; means = λ r again same. ap part_is.Branch same; alike = λ r again same alike. alike }))
+      (made_of an_assign part_as raw_part.Assign (record { fit = λ r fit. fit; words = λ r fit. refl; means = λ r again same. ap part_is.Assign same; same = λ r again same facts. facts }))
+      (made_of a_guard part_as raw_part.Guard (record { fit = λ r fit. fit; words = λ r fit. refl; means = λ r again same. ap part_is.Branch same; same = λ r again same facts. facts }))
 
   abbrev pub a_part : Written s false RawPart Part
   a_part = record { form = syntax.part; of = part_as; again = part_written }
@@ -183,14 +183,14 @@ module _ (c : Context) where
     means_again = λ range. (text_of c.written range.var, (term_of c.written names c.again range.low, term_of c.written names c.again range.high));
     notes = λ range. expression_notes spot c.scope range.low ++ expression_notes spot c.scope range.high;
     notes_again = λ range. expression_notes spot c.again range.low ++ expression_notes spot c.again range.high;
-    words = λ range. range_words (shown_in c) c.vars range.0 range.1.0 range.1.1;
+    words = λ range. range_words (shown_in c) (vars_in c) range.0 range.1.0 range.1.1;
   }
 
-  pub range_written : (spot : Spot) → takes_data c.texts spot ≡ false → AreWritten s syntax.range (range_as spot)
+  pub range_written : (spot : Spot) → takes_data spot ≡ false → AreWritten s syntax.range (range_as spot)
   unfolding syntax.range
   range_written spot no_data =
       made_of (a_name & led_by in_word (an_ix c spot no_data 5 & led_by range_word (an_ix c spot no_data 5))) (range_as spot) (λ x. record { var = x.0; low = x.1.0; high = x.1.1 })
-      (record { fit = λ r fit. fit; words = λ r fit. refl; means = λ r again same. same; alike = λ r again same alike. alike })
+      (record { fit = λ r fit. fit; words = λ r fit. refl; means = λ r again same. same; same = λ r again same facts. facts })
 
-  abbrev pub a_range : (spot : Spot) → takes_data c.texts spot ≡ false → Written s false RawRange Range
+  abbrev pub a_range : (spot : Spot) → takes_data spot ≡ false → Written s false RawRange Range
   a_range spot no_data = record { form = syntax.range; of = range_as spot; again = range_written spot no_data }

@@ -1,5 +1,5 @@
 -- The printed words of an index expression, as tokens of the printed text, mean it again.
-use Rattle.std.proofs.Common.{◌≡◌, ℕ, zero, suc, ◌+◌, true, false, List, [], ◌∷◌, ◌++◌, Option, None, Some, is_some, refl, ap, sym, ◌∙◌, subst, arith, inl, inr, codes}
+use Rattle.std.proofs.Common.{◌≡◌, ℕ, zero, suc, ◌+◌, true, false, List, [], ◌∷◌, ◌++◌, Option, None, Some, is_some, refl, ap, sym, ◌∙◌, subst, arith, inl, inr, codes, length}
 use Rattle.spf_lex.specs.BundleWords.{bundle_words}
 use Rattle.spf_lex.specs.Language.{Lexed}
 use Rattle.spf_lex.specs.Grammar.{Grammar, One, Then}
@@ -7,31 +7,32 @@ use Rattle.spf_lex.specs.declared.cursor.Token.{Token}
 use Rattle.spf_lex.specs.declared.kind.Kind.{Kind}
 use Rattle.spf_lex.specs.declared.kind.Kind.TheVariants as kind
 use Rattle.spf_lex.proofs.FixedWords.{symbol_fixed}
-use Rattle.spf_lex.proofs.Leaves.{Leaves}
+use Rattle.spf_lex.proofs.Leaves.{Leaves, split_each}
 use Rattle.spf_lex.proofs.PrintedWords.{Holds, stands_inside, word_alone, behind_word, on_left, absent, enclosed}
 use Rattle.spf_term.specs.declared.term.Atom.{Atom}
 use Rattle.spf_term.specs.declared.term.Atom.TheVariants as atom_is
 use Rattle.spf_term.specs.declared.term.Term.{Term}
-use Rattle.spf_kernel.specs.declared.note.Says.TheVariants.{Used, Expression}
+use Rattle.spf_kernel.specs.declared.note.Says.TheVariants.{Used}
+use Rattle.spf_kernel.specs.declared.note.Note.{Note}
 use Rattle.spf_kernel.specs.declared.note.Spot.{Spot}
 use Rattle.spf_kernel.specs.declared.note.Scope.{Scope}
 use Rattle.spf_kernel.specs.declared.raw.RawIx.{RawIx}
 use Rattle.spf_kernel.specs.declared.raw.RawAtom.{RawAtom, out-roll-RawAtom}
+use Rattle.spf_kernel.specs.Productions as syntax
+use Rattle.spf_kernel.specs.Facts.{facts_of, text_of, fact_with}
 use Rattle.spf_kernel.specs.Names.{Names}
-use Rattle.spf_kernel.specs.Notes.{note, ix_notes, atom_notes, expression_notes}
+use Rattle.spf_kernel.specs.Notes.{note, ix_notes, atom_notes, expression_notes, atom_monomials, excess_notes, ix_monomials, monomial_limit}
 use Rattle.spf_kernel.specs.Printed.{atom_words, term_words}
 use Rattle.spf_kernel.specs.Productions.{Syntax, named}
-use Rattle.spf_kernel.specs.Productions as syntax
 use Rattle.spf_kernel.specs.Resolved.{atom_of, term_of}
-use Rattle.spf_kernel.specs.Rules.{takes_data, is_monomial, text_of}
-use Rattle.spf_kernel.proofs.Alike.{alike_said, alike_inner, inner_notes}
-use Rattle.spf_kernel.proofs.Counting.{first_more}
-use Rattle.spf_kernel.proofs.NoteEquations.{at_notes, atom_notes_are}
+use Rattle.spf_kernel.specs.Rules.{takes_data}
+use Rattle.spf_kernel.proofs.NamedUses.{IsFitting}
+use Rattle.spf_kernel.proofs.NoteEquations.{at_notes, atom_notes_are, at_monomials, atom_monomials_are, few_monomials, none_in_excess}
 use Rattle.spf_kernel.proofs.TermEquations.{atom_at, atom_is_at}
-use Rattle.spf_kernel.proofs.Written.{in_scope, AreText, IsFixedWord, IsLeaf, Context, names_in, shown_in, token_of, Meaning, source, AreFit, AreWritten, text_here, name_written}
+use Rattle.spf_kernel.proofs.Written.{in_scope, AreText, IsFixedWord, IsLeaf, Context, names_in, shown_in, token_of, Meaning, source, AreFit, AreWritten, text_here, name_written, vars_in}
 use Rattle.spf_kernel.proofs.WrittenInside.{IsAgainInside, AreWrittenInside, told_as, sum_as}
 use Rattle.spf_kernel.proofs.WrittenMonos.{atom_as, sum_read}
-use Rattle.spf_kernel.proofs.WrittenNames.{bare_shown, bare_means, table_shown, table_means, use_told}
+use Rattle.spf_kernel.proofs.WrittenNames.{bare_shown, bare_means, table_shown, table_means}
 
 -- ---- brackets
 
@@ -52,17 +53,20 @@ named_means texts names scope name at =
     let shows = out-roll-RawAtom (record { name = name; at = at }) in
     atom_is_at texts names scope (named name at) ∙ (λ i. atom_at texts names scope (shows i).name (shows i).at)
 
-named_notes : (spot : Spot) (scope : Scope) (name : Token) (at : Option RawIx) → atom_notes spot scope (named name at) ≡ note name (Used (is_some at) spot scope) ∷ at_notes spot scope at
+named_notes : (spot : Spot) (scope : Scope) (name : Token) (at : Option RawIx) → atom_notes spot scope (named name at) ≡ note name (Used (is_some at) spot) scope ∷ at_notes spot scope at
 named_notes spot scope name at =
     let shows = out-roll-RawAtom (record { name = name; at = at }) in
-    atom_notes_are spot scope (named name at) ∙ (λ i. note (shows i).name (Used (is_some (shows i).at) spot scope) ∷ at_notes spot scope (shows i).at)
+    atom_notes_are spot scope (named name at) ∙ (λ i. note (shows i).name (Used (is_some (shows i).at) spot) scope ∷ at_notes spot scope (shows i).at)
 
-module _ (c : Context) (spot : Spot) (no_data : takes_data c.texts spot ≡ false) where
+named_monomials : (name : Token) (at : Option RawIx) → atom_monomials (named name at) ≡ at_monomials at
+named_monomials name at = atom_monomials_are (named name at) ∙ (λ i. at_monomials (out-roll-RawAtom (record { name = name; at = at }) i).at)
+
+module _ (c : Context) (spot : Spot) (no_data : takes_data spot ≡ false) where
   abbrev names : Names
   names = names_in c
 
   abbrev words_of_atom : Atom → List (List ℕ)
-  words_of_atom x = atom_words (shown_in c) c.vars x
+  words_of_atom x = atom_words (shown_in c) (vars_in c) x
 
   abbrev given : RawAtom → Atom
   given x = atom_of c.texts names c.scope x
@@ -75,48 +79,41 @@ module _ (c : Context) (spot : Spot) (no_data : takes_data c.texts spot ≡ fals
       let other = token_of at word in
       let meant = named_means c.texts names c.scope name None in
       let noted = named_notes spot c.scope name None in
-      let noted_again : atom_notes spot c.again (p.make text.derivation) ≡ note other (Used false spot c.again) ∷ [] = ap (atom_notes spot c.again) is ∙ named_notes spot c.again other None in
+      let noted_again : atom_notes spot c.again (p.make text.derivation) ≡ note other (Used false spot) c.again ∷ [] = ap (atom_notes spot c.again) is ∙ named_notes spot c.again other None in
       let uses = subst (AreFit (source c)) noted fit in
-      let words : words_of_atom (given (named name None)) ≡ word ∷ [] = ap words_of_atom meant ∙ bare_shown c spot name uses.0.fits in
+      let words : words_of_atom (given (named name None)) ≡ word ∷ [] = ap words_of_atom meant ∙ bare_shown c spot name uses.0 in
       let here = subst (Holds c.written at) words holds in
       let same = text_here c.written at word here.0 in
-      told_as (sym meant) (sym words) (sym noted) (record {
+      told_as {count = 0} (sym meant) (sym words) (ap (facts_of c.texts) (sym noted)) (omega arith) (record {
         text = text;
         means = ap (atom_of c.written names c.again) is ∙ (named_means c.written names c.again other None ∙ bare_means c name other same);
-        inside = rw noted_again (record { same = λ i. use_told c false spot name other same i ++ []; small = (tt, tt); few = omega arith });
+        same = ap (facts_of c.written) noted_again ∙ (λ i. fact_with (Used false spot) (same i) (c.scoped i) ∷ []);
+        few = omega (arith, ap (λ (x : RawAtom). length (atom_monomials x)) is, ap length (named_monomials other None));
       })
 
   -- a name with brackets, and the sum inside them
   entry_again : (p : Syntax RawIx) (name : Lexed Kind) → IsLeaf c.texts kind.Name name → (index : RawIx) → AreFit (source c) (atom_notes spot c.scope (named name.token (Some index))) → (at : ℕ)
-      → (Holds c.written (at + 1 + 1) (term_words (shown_in c) c.vars (term_of c.texts names c.scope index)) → IsAgainInside c p (sum_as c spot) index (at + 1 + 1))
+      → (Holds c.written (at + 1 + 1) (term_words (shown_in c) (vars_in c) (term_of c.texts names c.scope index)) → IsAgainInside c p (sum_as c spot) index (at + 1 + 1))
       → Holds c.written at (words_of_atom (given (named name.token (Some index)))) → IsAgainInside c (syntax.subscripted p) (atom_as c spot) (named name.token (Some index)) at
   unfolding syntax.subscripted
   entry_again p name leaf index fit at read holds =
       let word = text_of c.texts name.token in
-      let inside = term_words (shown_in c) c.vars (term_of c.texts names c.scope index) in
+      let inside = term_words (shown_in c) (vars_in c) (term_of c.texts names c.scope index) in
       let other = token_of at word in
       let meant = named_means c.texts names c.scope name.token (Some index) in
       let noted = named_notes spot c.scope name.token (Some index) in
       let uses = subst (AreFit (source c)) noted fit in
       let words : words_of_atom (given (named name.token (Some index))) ≡ word ∷ codes "[" ∷ inside ++ codes "]" ∷ [] =
-      ap words_of_atom meant ∙ ap (λ (first : List ℕ). first ∷ codes "[" ∷ inside ++ codes "]" ∷ []) (table_shown c spot no_data name.token uses.0.fits) in
+      ap words_of_atom meant ∙ ap (λ (first : List ℕ). first ∷ codes "[" ∷ inside ++ codes "]" ∷ []) (table_shown c spot no_data name.token uses.0) in
       let here = subst (Holds c.written at) words holds in
       let is = name_written c.texts c.written name word at leaf refl here.0 in
       let found = read (stands_inside c.written (at + 1) (codes "[") inside (codes "]") here.1) in
       let raw = p.make found.text.derivation in
-      told_as (sym meant) (sym words) (sym noted) (record {
+      told_as {count = length (ix_monomials index)} (sym meant) (sym words) (ap (facts_of c.texts) (sym noted)) (omega (arith, ap length (named_monomials name.token (Some index)))) (record {
         text = behind_word at is.fixed (on_left (in_brackets (at + 1) found.text));
         means = named_means c.written names c.again other (Some raw) ∙ (λ i. atom_is.App (table_means c name.token other is.same i) (found.means i));
-        inside = rw (named_notes spot c.again other (Some raw)) (record {
-          same = λ i. use_told c true spot name.token other is.same i ++ found.inside.same i;
-          small = (tt, found.inside.small);
-          few = omega (
-            arith,
-            found.inside.few,
-            first_more is_monomial (note other (Used true spot c.again)) (ix_notes spot c.again raw),
-            first_more is_monomial (note name.token (Used true spot c.scope)) (ix_notes spot c.scope index),
-          );
-        });
+        same = ap (facts_of c.written) (named_notes spot c.again other (Some raw)) ∙ (λ i. fact_with (Used true spot) (is.same i) (c.scoped i) ∷ found.same i);
+        few = omega (arith, ap length (named_monomials other (Some raw)), found.few);
       })
 
   -- by induction on how deep brackets may still stand
@@ -134,17 +131,20 @@ module _ (c : Context) (spot : Spot) (no_data : takes_data c.texts spot ≡ fals
 abbrev pub ix_as : Context → Spot → Meaning RawIx Term
 ix_as c spot = in_scope c term_of (expression_notes spot) term_words
 
--- it is written again: its notes are alike, since they tell the same and are of no more monomials
-pub ix_written : (c : Context) (spot : Spot) → takes_data c.texts spot ≡ false → (depth : ℕ) → AreWritten (source c) (syntax.ix depth) (ix_as c spot)
+-- it is written again: none of its numbers and monomials is noted, and so none of those that are written
+pub ix_written : (c : Context) (spot : Spot) → takes_data spot ≡ false → (depth : ℕ) → AreWritten (source c) (syntax.ix depth) (ix_as c spot)
 unfolding syntax.ix
 ix_written c spot no_data depth d leaves fit at holds =
     let p = syntax.sum (syntax.atom depth) in
-    let found = sum_read c spot (syntax.atom depth) (atom_written c spot no_data depth) d leaves fit.1 at holds in
     let raw = p.make d in
+    let room = monomial_limit spot in
+    let parts = split_each (IsFitting c.texts c.facts) (excess_notes room (ix_monomials raw)) (ix_notes spot c.scope raw) fit in
+    let found = sum_read c spot (syntax.atom depth) (atom_written c spot no_data depth) d leaves parts.1 at holds in
+    let few = few_monomials c.texts c.facts room (ix_monomials raw) parts.0 in
     let new = p.make found.text.derivation in
     record {
       text = found.text;
       means = found.means;
-      alike = alike_said _ _ Expression refl
-          (alike_inner c.texts c.written spot (ix_notes spot c.again new) (ix_notes spot c.scope raw) (inner_notes spot c.again new) (inner_notes spot c.scope raw) found.inside.same found.inside.small found.inside.few);
+      same = ap (λ (notes : List Note). facts_of c.written (notes ++ ix_notes spot c.again new)) (none_in_excess room (ix_monomials new) (omega (arith, few, found.few)))
+          ∙ found.same ∙ sym (ap (λ (notes : List Note). facts_of c.texts (notes ++ ix_notes spot c.scope raw)) (none_in_excess room (ix_monomials raw) few));
     }

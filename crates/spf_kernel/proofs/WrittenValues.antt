@@ -29,21 +29,21 @@ use Rattle.spf_kernel.specs.declared.tree.Value.{Value, roll-Value, out-roll-Val
 use Rattle.spf_kernel.specs.declared.tree.Prod.{Prod}
 use Rattle.spf_kernel.specs.declared.tree.Factor.{Factor}
 use Rattle.spf_kernel.specs.declared.tree.Factor.TheVariants as factor
-use Rattle.spf_kernel.specs.Names.{Names, number_of}
-use Rattle.spf_kernel.specs.Notes.{note, value_notes, fact_notes, subscript_notes}
-use Rattle.spf_kernel.specs.Printed.{sign_word, lead_words, term_words, fact_words, prod_words, value_words}
 use Rattle.spf_kernel.specs.Printed as printed
-use Rattle.spf_kernel.specs.Productions.{Syntax, named}
 use Rattle.spf_kernel.specs.Productions as syntax
+use Rattle.spf_kernel.specs.Facts.{fact_of, facts_of, text_of}
+use Rattle.spf_kernel.specs.Names.{Names, number_of}
+use Rattle.spf_kernel.specs.Notes.{note, value_notes, fact_notes, subscript_notes, mark}
+use Rattle.spf_kernel.specs.Printed.{sign_word, lead_words, term_words, fact_words, prod_words, value_words}
+use Rattle.spf_kernel.specs.Productions.{Syntax, named}
 use Rattle.spf_kernel.specs.Resolved.{variable_of, table_of, data_array_of, is_data_array, bare_factor, term_of, value_of, factor_of, factor_at, product}
-use Rattle.spf_kernel.specs.Rules.{text_of}
-use Rattle.spf_kernel.proofs.Alike.{alike_none, alike_said, alike_used}
-use Rattle.spf_kernel.proofs.FittingNames.{IsBare, bare_fits, IsEntry, entry_fits}
+use Rattle.spf_kernel.proofs.FittingNames.{IsBare, IsEntry, entry_fits}
+use Rattle.spf_kernel.proofs.NamedUses.{IsFitting}
 use Rattle.spf_kernel.proofs.NoteEquations.{summand_notes, value_notes_are, paren_notes_are}
 use Rattle.spf_kernel.proofs.PrintEquations.{value_words_are}
-use Rattle.spf_kernel.proofs.Told.{Alike, IsKept}
 use Rattle.spf_kernel.proofs.ValueEquations.{summand_of, value_is, paren_is}
-use Rattle.spf_kernel.proofs.Written.{in_scope, IsFixedWord, IsLeaf, Context, source, names_in, shown_in, token_of, Meaning, AreFit, IsWritten, AreWritten, written_by, name_written}
+use Rattle.spf_kernel.proofs.Written.{in_scope, IsLeaf, Context, source, names_in, shown_in, token_of, Meaning, AreFit, AreWritten, written_by, name_written, vars_in, same_by}
+use Rattle.spf_kernel.proofs.WrittenNames.{bare_is, variable_again, IsShown}
 use Rattle.spf_kernel.proofs.WrittenParts.{worded, pair_of, each_of, sign_as, in_a_row, both, made_written, both_written, between_written, either_written, row_written, separated_written, sign_written}
 use Rattle.spf_kernel.proofs.WrittenSigns.{IsRead, number_written, summand_sign_written, summand_lead_written}
 use Rattle.spf_kernel.proofs.WrittenTerms.{in_brackets, ix_written}
@@ -63,7 +63,7 @@ fact_means : (texts : List (List ℕ)) (names : Names) (scope : Scope) (name : T
 fact_means texts names scope name at = λ i. factor_at texts names scope (out-roll-RawAtom (record { name = name; at = at }) i).name (out-roll-RawAtom (record { name = name; at = at }) i).at
 
 abbrev read_by : Scope → Token → Option RawIx → List Note
-read_by scope name at = note name says_is.Factor ∷ note name (Used (is_some at) spot_is.Factor scope) ∷ subscript_notes scope at
+read_by scope name at = mark name says_is.Factor ∷ note name (Used (is_some at) spot_is.Factor) scope ∷ subscript_notes scope at
 
 fact_notes_are : (scope : Scope) (name : Token) (at : Option RawIx) → fact_notes scope (name_fact name at) ≡ read_by scope name at
 fact_notes_are scope name at = λ i. read_by scope (out-roll-RawAtom (record { name = name; at = at }) i).name (out-roll-RawAtom (record { name = name; at = at }) i).at
@@ -76,7 +76,7 @@ module _ (c : Context) where
   names = names_in c
 
   abbrev printed_as : Factor → List (List ℕ)
-  printed_as = fact_words (shown_in c) c.vars
+  printed_as = fact_words (shown_in c) (vars_in c)
 
   -- ---- numbers
 
@@ -88,35 +88,32 @@ module _ (c : Context) where
   number_factor : AreWritten s (raw_factor.Number <$> syntax.number) (fact_as c)
   number_factor d leaves fit at holds =
       let is = number_written (syntax.number.make d).value at (number_small d leaves) in
-      record { text = is.text; means = ap (λ n. factor.Number n) is.same; alike = alike_said _ _ says_is.Factor refl alike_none }
+      record { text = is.text; means = ap (λ n. factor.Number n) is.same; same = refl }
 
   -- ---- names
 
   -- a name without brackets is printed as its text
-  bare_words : (name : Token) → IsKept c.texts c.notes (note name (Used false spot_is.Factor c.scope)) → printed_as (factor_at c.texts names c.scope name None) ≡ text_of c.texts name ∷ []
-  bare_words name kept = by (variable_of c.texts c.scope name) (bare_fits c.texts c.notes IsShown spot_is.Factor c.scope name kept.fits (c.scoped.named name)) where
-    IsShown : ℕ → Type 0
-    IsShown variable = Rattle.spf_kernel.specs.TreeNames.name_at c.vars variable ≡ text_of c.texts name
-
-    by : (found : Option ℕ) → IsBare c.texts c.notes IsShown name found → printed_as (bare_factor c.texts names found name) ≡ text_of c.texts name ∷ []
+  bare_words : (name : Token) → IsFitting c.texts c.facts (note name (Used false spot_is.Factor) c.scope) → printed_as (factor_at c.texts names c.scope name None) ≡ text_of c.texts name ∷ []
+  bare_words name fit = by (variable_of (vars_in c) (text_of c.texts name)) (bare_is c spot_is.Factor (text_of c.texts name) fit) where
+    by : (found : Option ℕ) → IsBare c.facts (IsShown c (text_of c.texts name)) (text_of c.texts name) found → printed_as (bare_factor c.texts names found name) ≡ text_of c.texts name ∷ []
     by (Some variable) named = ap (λ word. word ∷ []) named
     by None number = ap (λ word. word ∷ []) number.named
 
   -- the same text is the same variable or parameter
   bare_same : (name other : Token) → text_of c.written other ≡ text_of c.texts name → factor_at c.written names c.again other None ≡ factor_at c.texts names c.scope name None
-  bare_same name other e = ap (λ variable. bare_factor c.written names variable other) (c.scoped.variable name other e) ∙ by (variable_of c.texts c.scope name) where
+  bare_same name other e = ap (λ variable. bare_factor c.written names variable other) (variable_again c name other e) ∙ by (variable_of (vars_in c) (text_of c.texts name)) where
     by : (variable : Option ℕ) → bare_factor c.written names variable other ≡ bare_factor c.texts names variable name
     by (Some variable) = refl
     by None = ap (λ text. factor.Param (number_of names.params text)) e
 
   -- a name with brackets is printed as its text too
-  entry_words_are : (name : Token) (x : RawIx) → IsKept c.texts c.notes (note name (Used true spot_is.Factor c.scope))
-      → printed_as (factor_at c.texts names c.scope name (Some x)) ≡ text_of c.texts name ∷ codes "[" ∷ term_words (shown_in c) c.vars (term_of c.texts names c.scope x) ++ codes "]" ∷ []
-  entry_words_are name x kept = by (is_data_array c.texts names name) (entry_fits c.texts c.notes c.scope name kept.fits) where
+  entry_words_are : (name : Token) (x : RawIx) → IsFitting c.texts c.facts (note name (Used true spot_is.Factor) c.scope)
+      → printed_as (factor_at c.texts names c.scope name (Some x)) ≡ text_of c.texts name ∷ codes "[" ∷ term_words (shown_in c) (vars_in c) (term_of c.texts names c.scope x) ++ codes "]" ∷ []
+  entry_words_are name x kept = by (is_data_array c.texts names name) (entry_fits c.facts (vars_in c) (text_of c.texts name) kept) where
     after : List (List ℕ)
-    after = codes "[" ∷ term_words (shown_in c) c.vars (term_of c.texts names c.scope x) ++ codes "]" ∷ []
+    after = codes "[" ∷ term_words (shown_in c) (vars_in c) (term_of c.texts names c.scope x) ++ codes "]" ∷ []
 
-    by : (b : Bool) → IsEntry c.texts c.notes name b
+    by : (b : Bool) → IsEntry c.facts (text_of c.texts name) b
         → printed_as (if b then factor.Cell (data_array_of c.texts names name) (term_of c.texts names c.scope x) else factor.Index (table_of c.texts names name) (term_of c.texts names c.scope x)) ≡ text_of c.texts name ∷ after
     by true number = ap (λ word. word ∷ after) number.named
     by false number = ap (λ word. word ∷ after) number.named
@@ -125,11 +122,11 @@ module _ (c : Context) where
   abbrev entry_by : List ℕ → Term → Factor
   entry_by text sub = if list_any (bytes_eq text) names.data_arrays then factor.Cell (number_of names.data_arrays text) sub else factor.Index (number_of names.tables text) sub
 
-  read_alike : (name other : Token) (at again : Option RawIx) → is_some again ≡ is_some at → text_of c.written other ≡ text_of c.texts name → Alike c.texts c.written (subscript_notes c.scope at) (subscript_notes c.again again)
-      → Alike c.texts c.written (fact_notes c.scope (name_fact name at)) (fact_notes c.again (name_fact other again))
-  read_alike name other at again brackets e rest =
-      rw (fact_notes_are c.scope name at, fact_notes_are c.again other again, brackets)
-      (alike_said name other says_is.Factor refl (alike_used name other (is_some at) spot_is.Factor c.scope c.again e c.scoped.outer c.scoped.inner rest))
+  read_same : (name other : Token) (at again : Option RawIx) → is_some again ≡ is_some at → text_of c.written other ≡ text_of c.texts name → facts_of c.written (subscript_notes c.again again) ≡ facts_of c.texts (subscript_notes c.scope at)
+      → facts_of c.written (fact_notes c.again (name_fact other again)) ≡ facts_of c.texts (fact_notes c.scope (name_fact name at))
+  read_same name other at again brackets e rest =
+      same_by c.texts c.written (fact_notes_are c.again other again) (fact_notes_are c.scope name at)
+      (λ i. fact_of c.texts (mark name says_is.Factor) ∷ record { says = Used (brackets i) spot_is.Factor; name = e i; variables = c.scoped i } ∷ rest i)
 
   name_factor : (depth : ℕ) → AreWritten s (raw_factor.Name <$> syntax.atom (suc depth)) (fact_as c)
   unfolding Leaves syntax.atom syntax.subscripted syntax.ix
@@ -143,12 +140,12 @@ module _ (c : Context) where
       let is = name_written c.texts c.written name text at leaves.0 refl there.0 in
       written_by words (behind_word at is.fixed (absent (at + 1)))
       (fact_means c.written names c.again other None ∙ bare_same name.token other is.same ∙ sym meant)
-      (read_alike name.token other None None refl is.same alike_none)
+      (read_same name.token other None None refl is.same refl)
   name_factor depth (name, inl (opened, (x, closed))) leaves fit at holds =
       let text = text_of c.texts name.token in
       let other = token_of at text in
       let raw = (syntax.ix depth).make x in
-      let sub = term_words (shown_in c) c.vars (term_of c.texts names c.scope raw) in
+      let sub = term_words (shown_in c) (vars_in c) (term_of c.texts names c.scope raw) in
       let meant = fact_means c.texts names c.scope name.token (Some raw) in
       let uses = subst (AreFit s) (fact_notes_are c.scope name.token (Some raw)) fit in
       let words = ap printed_as meant ∙ entry_words_are name.token raw uses.1.0 in
@@ -158,7 +155,7 @@ module _ (c : Context) where
       let is = name_written c.texts c.written name text at leaves.0 refl there.0 in
       written_by words (behind_word at is.fixed (on_left (in_brackets (at + 1) inside.text)))
       (fact_means c.written names c.again other (Some again) ∙ (λ i. entry_by (is.same i) (inside.means i)) ∙ sym meant)
-      (read_alike name.token other (Some raw) (Some again) refl is.same inside.alike)
+      (read_same name.token other (Some raw) (Some again) refl is.same inside.same)
 
   -- ---- products
 
@@ -170,26 +167,26 @@ module _ (c : Context) where
 
   -- the words of a product, with those of a sign in front
   abbrev with_sign : (Bool → List (List ℕ)) → Prod → List (List ℕ)
-  with_sign sign prod = sign prod.minus ++ prod_words (shown_in c) c.vars prod
+  with_sign sign prod = sign prod.minus ++ prod_words (shown_in c) (vars_in c) prod
 
   module _ (f : Syntax RawFactor) (one : AreWritten s f (fact_as c)) where
     summand_written : {empty : Bool} (p : Production same_kind empty Bool) (sign : Bool → List (List ℕ)) → ((minus : Bool) (at : ℕ) → IsRead p (λ b. b) minus (sign minus) at)
         → AreWritten s ((λ x. syntax.summand x.0 x.1) <$> both p (separated kind.Star f)) (worded summand_as (with_sign sign))
     summand_written p sign reads =
         made_written (both p (separated kind.Star f)) (pair_of (sign_as (λ b. b) sign) facts_as) (worded summand_as (with_sign sign)) (λ x. syntax.summand x.0 x.1)
-        (record { fit = λ r fit. fit; words = λ r fit. refl; means = λ r again same i. product (same i).0 (same i).1; alike = λ r again same alike. alike })
+        (record { fit = λ r fit. fit; words = λ r fit. refl; means = λ r again same i. product (same i).0 (same i).1; same = λ r again same facts. facts })
         (both_written p (separated kind.Star f) (sign_as (λ b. b) sign) facts_as (sign_written p (λ b. b) sign reads)
         (separated_written f (fact_as c) (symbol_fixed bundle_words kind.Star (codes "*") refl refl) one))
 
     abbrev row_words : List Prod → List (List ℕ)
     row_words = in_a_row (with_sign lead_words) (with_sign (λ minus. sign_word minus ∷ []))
 
-    row_is : (prods : List Prod) → value_words (shown_in c) c.vars (roll-Value (record { prods = prods })) ≡ row_words prods
-    row_is prods = value_words_are (shown_in c) c.vars (roll-Value (record { prods = prods })) ∙ ap signed (λ i. (out-roll-Value (record { prods = prods }) i).prods) ∙ by prods where
+    row_is : (prods : List Prod) → value_words (shown_in c) (vars_in c) (roll-Value (record { prods = prods })) ≡ row_words prods
+    row_is prods = value_words_are (shown_in c) (vars_in c) (roll-Value (record { prods = prods })) ∙ ap signed (λ i. (out-roll-Value (record { prods = prods }) i).prods) ∙ by prods where
       signed : List Prod → List (List ℕ)
-      signed prods = printed.signed (λ (prod : Prod). prod.minus) (prod_words (shown_in c) c.vars) prods
+      signed prods = printed.signed (λ (prod : Prod). prod.minus) (prod_words (shown_in c) (vars_in c)) prods
 
-      by : (prods : List Prod) → printed.signed (λ (prod : Prod). prod.minus) (prod_words (shown_in c) c.vars) prods ≡ row_words prods
+      by : (prods : List Prod) → printed.signed (λ (prod : Prod). prod.minus) (prod_words (shown_in c) (vars_in c)) prods ≡ row_words prods
       by [] = refl
       by (prod ∷ prods) = refl
 
@@ -207,9 +204,9 @@ module _ (c : Context) where
         made_written (and_more (syntax.first_summand f) (syntax.next_summand f)) (each_of summand_as row_words) (value_as c) (λ summands. roll-RawValue (record { summands = summands }))
         (record {
           fit = λ r. subst (AreFit s) (notes_rolled c.scope r);
-          words = λ r fit. ap (value_words (shown_in c) c.vars) (value_rolled c.texts c.scope r) ∙ row_is (map (summand_of c.texts names c.scope) r);
+          words = λ r fit. ap (value_words (shown_in c) (vars_in c)) (value_rolled c.texts c.scope r) ∙ row_is (map (summand_of c.texts names c.scope) r);
           means = λ r again same. value_rolled c.written c.again again ∙ (λ i. roll-Value (record { prods = same i })) ∙ sym (value_rolled c.texts c.scope r);
-          alike = λ r again same alike. rw (notes_rolled c.scope r, notes_rolled c.again again) alike;
+          same = λ r again same facts. same_by c.texts c.written (notes_rolled c.again again) (notes_rolled c.scope r) facts;
         })
         (row_written (syntax.first_summand f) (syntax.next_summand f) (worded summand_as (with_sign lead_words)) (with_sign (λ minus. sign_word minus ∷ []))
         (summand_written (flag kind.Minus) lead_words summand_lead_written)
@@ -219,12 +216,12 @@ module _ (c : Context) where
 
   paren_written : (p : Syntax RawValue) → AreWritten s p (value_as c) → AreWritten s (raw_factor.Paren <$> between kind.OpenParenthesis kind.CloseParenthesis p) (fact_as c)
   paren_written p one =
-      made_written (between kind.OpenParenthesis kind.CloseParenthesis p) (worded (value_as c) (λ x. codes "(" ∷ (value_words (shown_in c) c.vars x ++ codes ")" ∷ []))) (fact_as c) raw_factor.Paren
+      made_written (between kind.OpenParenthesis kind.CloseParenthesis p) (worded (value_as c) (λ x. codes "(" ∷ (value_words (shown_in c) (vars_in c) x ++ codes ")" ∷ []))) (fact_as c) raw_factor.Paren
       (record {
         fit = λ r. subst (AreFit s) (paren_notes_are c.scope r);
         words = λ r fit. ap printed_as (paren_is c.texts names c.scope r);
         means = λ r again same. paren_is c.written names c.again again ∙ ap (λ (inside : Value). factor.Paren inside) same ∙ sym (paren_is c.texts names c.scope r);
-        alike = λ r again same alike. rw (paren_notes_are c.scope r, paren_notes_are c.again again) alike;
+        same = λ r again same facts. same_by c.texts c.written (paren_notes_are c.again again) (paren_notes_are c.scope r) facts;
       })
       (between_written p (value_as c) (symbol_fixed bundle_words kind.OpenParenthesis (codes "(") refl refl) (symbol_fixed bundle_words kind.CloseParenthesis (codes ")") refl refl) one)
 

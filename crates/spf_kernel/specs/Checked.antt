@@ -2,9 +2,8 @@
 use Rattle.std.specs.Prelude.{ℕ, ◌≡◌, ◌+◌, ◌<◌, ◌⊎◌, Bool, List, position, Option, None, Some, Result, Ok, Err}
 use Rattle.std.specs.Option.{option_map}
 use Rattle.spf_kernel.specs.declared.note.Note.{Note}
-use Rattle.spf_lex.specs.declared.cursor.Token.{Token}
-use Rattle.spf_kernel.specs.declared.note.Says.{Says}
 use Rattle.spf_kernel.specs.declared.rules.Breach.{Breach}
+use Rattle.spf_kernel.specs.Facts.{Fact, facts_of}
 use Rattle.spf_kernel.specs.Names.{Names, names_of}
 use Rattle.spf_kernel.specs.Rules.{rules, IsFirstBreach, IsUnbroken}
 
@@ -12,11 +11,11 @@ use Rattle.spf_kernel.specs.Rules.{rules, IsFirstBreach, IsUnbroken}
 abbrev pub Precedes : Breach → Breach → Type 0
 Precedes a b = (a.place < b.place) ⊎ ((a.place ≡ b.place) × (a.rule < b.rule))
 
-module _ (texts : List (List ℕ)) where
-  -- the least rule that the note breaks, behind those before
-  unfoldable pub least_rule : List Note → Note → Option ℕ
-  least_rule before note = option_map (λ n. n + 1) (position (λ (test : List Note → Token → Says → Bool). test before note.token note.says) (rules texts))
+-- the least rule that the fact breaks, behind those before
+unfoldable pub least_rule : List Fact → Fact → Option ℕ
+least_rule before fact = option_map (λ n. n + 1) (position (λ (test : List Fact → Fact → Bool). test before fact) rules)
 
+module _ (texts : List (List ℕ)) where
   -- the first breach of the notes, or that there is none
   abbrev pub IsFirst : List Note → Option Breach → Type 0
   IsFirst notes None = IsUnbroken texts notes
@@ -24,5 +23,5 @@ module _ (texts : List (List ℕ)) where
 
   -- the notes keep the rules, and these are the names; or this is the first breach
   abbrev pub Checked : List Note → Result Names Breach → Type 0
-  Checked notes (Ok names) = IsUnbroken texts notes × (names ≡ names_of texts notes)
+  Checked notes (Ok names) = IsUnbroken texts notes × (names ≡ names_of (facts_of texts notes))
   Checked notes (Err breach) = IsFirstBreach texts notes breach.place breach.rule

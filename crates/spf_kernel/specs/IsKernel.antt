@@ -3,8 +3,8 @@ use Rattle.std.specs.Prelude.{List}
 use Rattle.spf_lex.specs.Language.{Lexed}
 use Rattle.spf_lex.specs.Standing.{Yields}
 use Rattle.spf_lex.specs.declared.kind.Kind.{Kind}
-use Rattle.spf_kernel.specs.Productions.{kernel}
 use Rattle.spf_kernel.specs.declared.raw.RawKernel.{RawKernel}
+use Rattle.spf_kernel.specs.Productions.{kernel}
 
 -- the tokens are a kernel with this tree: the tree of a derivation that they spell
 abbrev pub IsKernel : List (Lexed Kind) → RawKernel → Type 0

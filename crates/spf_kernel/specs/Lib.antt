@@ -1,8 +1,8 @@
 pub mod Before
 pub mod Checked
 pub mod Counts
+pub mod Facts
 pub mod IsKernel
-pub mod Kept
 pub mod Named
 pub mod Names
 pub mod Notes

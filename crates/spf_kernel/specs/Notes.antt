@@ -1,5 +1,5 @@
 -- The notes of a raw tree, in the order of its text.
-use Rattle.std.specs.Prelude.{true, false, List, [], ◌∷◌, ◌++◌, Option, None, Some, is_some, map, flat_map}
+use Rattle.std.specs.Prelude.{ℕ, Bool, true, false, nat_lt, if◌then◌else◌, List, [], ◌∷◌, ◌++◌, Option, None, Some, is_some, map, flat_map, drop}
 use Rattle.std.specs.Option.{unwrap_or}
 use Rattle.spf_lex.specs.declared.cursor.Token.{Token}
 use Rattle.spf_kernel.specs.declared.raw.RawIx.{RawIx, RawIx', out-RawIx, Row_of-RawStep, end_of-RawStep, more_of-RawStep}
@@ -23,15 +23,19 @@ use Rattle.spf_kernel.specs.declared.raw.RawDecl.TheVariants.{Params, Index, Val
 use Rattle.spf_kernel.specs.declared.raw.RawKernel.{RawKernel}
 use Rattle.spf_kernel.specs.declared.note.Note.{Note}
 use Rattle.spf_kernel.specs.declared.note.Says.{Says}
-use Rattle.spf_kernel.specs.declared.note.Says.TheVariants.{Declared, Variable, Used, Number, Expression, Monomial, Factor, Guard, Condition}
+use Rattle.spf_kernel.specs.declared.note.Says.TheVariants.{Declared, Variable, Used, Large, Excess, Factor, Guard, Condition}
 use Rattle.spf_kernel.specs.declared.note.Spot.{Spot}
 use Rattle.spf_kernel.specs.declared.note.Spot.TheVariants as spot_is
 use Rattle.spf_kernel.specs.declared.note.Sort.TheVariants as sort_is
 use Rattle.spf_kernel.specs.declared.note.Scope.{Scope}
 use Rattle.spf_kernel.specs.Scopes.{nothing, within, inside}
 
-abbrev pub note : Token → Says → Note
-note token says = record { token = token; says = says }
+abbrev pub note : Token → Says → Scope → Note
+note token says scope = record { token = token; says = says; scope = scope }
+
+-- of a role that is not that of a name
+abbrev pub mark : Token → Says → Note
+mark token says = note token says nothing
 
 -- ---- index expressions
 
@@ -40,18 +44,53 @@ abbrev pub mono_head : RawMono → Token
 mono_head (Number' number times) = number
 mono_head (Atom atom) = (out-RawAtom atom).name
 
--- the token that the first step has; an index expression has one
-abbrev steps_head : (RawStep → Token) → List RawStep → Token
-steps_head head [] = record { at = 0; value = 0 }
-steps_head head (step ∷ steps) = head step
+-- the first token of an index expression, which has a step and may begin with `-`
+abbrev steps_head : List RawStep → Token
+steps_head [] = record { at = 0; value = 0 }
+steps_head (step ∷ steps) = unwrap_or step.minus (mono_head step.mono)
 
--- the first token of an index expression, which may be a `-`
 abbrev pub ix_head : RawIx → Token
-ix_head ix = steps_head (λ step. unwrap_or step.minus (mono_head step.mono)) (out-RawIx ix).steps
+ix_head ix = steps_head (out-RawIx ix).steps
 
--- the first token of its first monomial
-abbrev pub expression_head : RawIx → Token
-expression_head ix = steps_head (λ step. mono_head step.mono) (out-RawIx ix).steps
+-- how large a number may be, in front of `*` or not
+abbrev pub number_limit : Bool → ℕ
+number_limit true = 1048576
+number_limit false = 4194304
+
+-- a number that passes its limit
+abbrev pub number_notes : Bool → Token → List Note
+number_notes times number = if nat_lt (number_limit times) number.value then mark number Large ∷ [] else []
+
+-- the first tokens of all monomials, nested ones too
+abbrev mutual
+  pub ix_monomials : RawIx → List Token
+  ix_monomials (RawIx' shape steps) = steps_monomials steps
+
+  pub steps_monomials : {n : _} → Row_of-RawStep n → List Token
+  steps_monomials end_of-RawStep = []
+  steps_monomials (more_of-RawStep minus mono others) = mono_monomials mono ++ steps_monomials others
+
+  pub mono_monomials : RawMono → List Token
+  mono_monomials (Number' number RawMono-Number-1-None') = number ∷ []
+  mono_monomials (Number' number (RawMono-Number-1-Some' atom)) = number ∷ atom_monomials atom
+  mono_monomials (Atom atom) = (out-RawAtom atom).name ∷ atom_monomials atom
+
+  pub atom_monomials : RawAtom → List Token
+  atom_monomials (RawAtom' name RawAtom-at-None') = []
+  atom_monomials (RawAtom' name (RawAtom-at-Some' shape at)) = nested_monomials at
+
+  pub nested_monomials : {n : _} → Row_of-RawIx n → List Token
+  nested_monomials end_of-RawIx = []
+  nested_monomials (more_of-RawIx ix others) = ix_monomials ix ++ nested_monomials others
+
+-- how many monomials an index expression may have
+abbrev pub monomial_limit : Spot → ℕ
+monomial_limit spot_is.Bound = 8
+monomial_limit spot = 64
+
+-- the monomials behind so many
+abbrev pub excess_notes : ℕ → List Token → List Note
+excess_notes room tokens = map (λ token. mark token Excess) (drop room tokens)
 
 module _ (spot : Spot) (scope : Scope) where
   abbrev mutual
@@ -63,13 +102,13 @@ module _ (spot : Spot) (scope : Scope) where
     steps_notes (more_of-RawStep minus mono others) = mono_notes mono ++ steps_notes others
 
     pub mono_notes : RawMono → List Note
-    mono_notes (Number' number RawMono-Number-1-None') = note number (Monomial spot) ∷ note number (Number false) ∷ []
-    mono_notes (Number' number (RawMono-Number-1-Some' atom)) = note number (Monomial spot) ∷ note number (Number true) ∷ atom_notes atom
-    mono_notes (Atom atom) = note (out-RawAtom atom).name (Monomial spot) ∷ atom_notes atom
+    mono_notes (Number' number RawMono-Number-1-None') = number_notes false number
+    mono_notes (Number' number (RawMono-Number-1-Some' atom)) = number_notes true number ++ atom_notes atom
+    mono_notes (Atom atom) = atom_notes atom
 
     pub atom_notes : RawAtom → List Note
-    atom_notes (RawAtom' name RawAtom-at-None') = note name (Used false spot scope) ∷ []
-    atom_notes (RawAtom' name (RawAtom-at-Some' shape at)) = note name (Used true spot scope) ∷ nested_notes at
+    atom_notes (RawAtom' name RawAtom-at-None') = note name (Used false spot) scope ∷ []
+    atom_notes (RawAtom' name (RawAtom-at-Some' shape at)) = note name (Used true spot) scope ∷ nested_notes at
 
     pub nested_notes : {n : _} → Row_of-RawIx n → List Note
     nested_notes end_of-RawIx = []
@@ -77,7 +116,7 @@ module _ (spot : Spot) (scope : Scope) where
 
   -- an index expression that stands in no other one
   abbrev pub expression_notes : RawIx → List Note
-  expression_notes ix = note (expression_head ix) Expression ∷ ix_notes ix
+  expression_notes ix = excess_notes (monomial_limit spot) (ix_monomials ix) ++ ix_notes ix
 
 -- the first token of the conditions of an `if`, which has one
 abbrev pub conds_head : List RawCond → Token
@@ -98,7 +137,7 @@ module _ (scope : Scope) where
   -- a name as a factor
   abbrev pub read_notes : RawAtom → List Note
   read_notes atom =
-      note (out-RawAtom atom).name Factor ∷ note (out-RawAtom atom).name (Used (is_some (out-RawAtom atom).at) spot_is.Factor scope)
+      mark (out-RawAtom atom).name Factor ∷ note (out-RawAtom atom).name (Used (is_some (out-RawAtom atom).at) spot_is.Factor) scope
       ∷ subscript_notes (out-RawAtom atom).at
 
   abbrev mutual
@@ -114,7 +153,7 @@ module _ (scope : Scope) where
     facts_notes (more_of-RawFactor fact others) = fact_notes fact ++ facts_notes others
 
     pub fact_notes : RawFactor → List Note
-    fact_notes (factor_is.Number number) = note number Factor ∷ []
+    fact_notes (factor_is.Number number) = mark number Factor ∷ []
     fact_notes (Paren' shape inside) = inside_notes inside
     fact_notes (factor_is.Name atom) = read_notes atom
 
@@ -123,13 +162,13 @@ module _ (scope : Scope) where
     inside_notes (more_of-RawValue value others) = value_notes value ++ inside_notes others
 
   abbrev pub assign_notes : RawAssign → List Note
-  assign_notes assign = note assign.array (Used true spot_is.Target scope) ∷ body_notes assign.at ++ value_notes assign.value
+  assign_notes assign = note assign.array (Used true spot_is.Target) scope ∷ body_notes assign.at ++ value_notes assign.value
 
   abbrev pub cond_notes : RawCond → List Note
-  cond_notes cond = note (ix_head cond.left) Condition ∷ body_notes cond.left ++ body_notes cond.right
+  cond_notes cond = mark (ix_head cond.left) Condition ∷ body_notes cond.left ++ body_notes cond.right
 
   abbrev pub guard_notes : RawGuard → List Note
-  guard_notes guard = note (conds_head guard.conds) Guard ∷ flat_map cond_notes guard.conds ++ flat_map assign_notes guard.body
+  guard_notes guard = mark (conds_head guard.conds) Guard ∷ flat_map cond_notes guard.conds ++ flat_map assign_notes guard.body
 
   abbrev pub part_notes : RawPart → List Note
   part_notes (part_is.Assign assign) = assign_notes assign
@@ -141,7 +180,7 @@ module _ (scope : Scope) where
 abbrev pub item_notes : Token → RawItem → List Note
 item_notes outer (Part part) = part_notes (within outer) part
 item_notes outer (Inner range parts) =
-    note range.var (Variable (Some outer)) ∷ body_notes (within outer) range.low ++ body_notes (within outer) range.high
+    note range.var Variable (within outer) ∷ body_notes (within outer) range.low ++ body_notes (within outer) range.high
     ++ flat_map (part_notes (inside outer range.var)) parts
 
 abbrev pub bound_notes : RawIx → List Note
@@ -149,7 +188,7 @@ bound_notes = expression_notes spot_is.Bound nothing
 
 unfoldable pub loop_notes : RawLoop → List Note
 loop_notes loop =
-    note loop.name (Declared sort_is.Loop) ∷ note loop.range.var (Variable None) ∷ bound_notes loop.range.low ++ bound_notes loop.range.high
+    note loop.name (Declared sort_is.Loop) nothing ∷ note loop.range.var Variable nothing ∷ bound_notes loop.range.low ++ bound_notes loop.range.high
     ++ flat_map (item_notes loop.range.var) loop.items
 
 -- ---- declarations
@@ -158,14 +197,14 @@ abbrev pub head_notes : RawIx → List Note
 head_notes = expression_notes spot_is.Head nothing
 
 abbrev pub param_note : Token → Note
-param_note name = note name (Declared sort_is.Param)
+param_note name = note name (Declared sort_is.Param) nothing
 
 abbrev pub cells_notes : RawSized → List Note
-cells_notes array = note array.name (Declared sort_is.Data) ∷ head_notes array.size
+cells_notes array = note array.name (Declared sort_is.Data) nothing ∷ head_notes array.size
 
 abbrev pub decl_notes : RawDecl → List Note
 decl_notes (Params names) = map param_note names
-decl_notes (Index array low high trend) = note array.name (Declared sort_is.Index) ∷ head_notes array.size ++ head_notes low ++ head_notes high
+decl_notes (Index array low high trend) = note array.name (Declared sort_is.Index) nothing ∷ head_notes array.size ++ head_notes low ++ head_notes high
 decl_notes (Values arrays) = flat_map cells_notes arrays
 
 -- the notes of a kernel

@@ -10,15 +10,16 @@ use Rattle.spf_kernel.specs.declared.fault.KernelFault.{KernelFault}
 use Rattle.spf_kernel.specs.declared.fault.KernelFault.TheVariants.{Syntax, Rule, Memory}
 use Rattle.spf_kernel.specs.declared.fault.Unkept.{Unkept}
 use Rattle.spf_kernel.specs.declared.fault.Unkept.TheVariants as unkept
-use Rattle.spf_kernel.specs.Notes.{kernel_notes}
-use Rattle.spf_kernel.specs.Rules.{IsUnbroken, IsFirstBreach}
+use Rattle.spf_kernel.specs.Facts.{facts_of}
 use Rattle.spf_kernel.specs.Names.{names_of}
+use Rattle.spf_kernel.specs.Notes.{kernel_notes}
 use Rattle.spf_kernel.specs.Resolved.{tree_of}
+use Rattle.spf_kernel.specs.Rules.{IsUnbroken, IsFirstBreach}
 use Rattle.spf_kernel.specs.Stands.{StandsAt, IsSyntaxFault}
 
 -- what a raw tree means
 abbrev pub meaning : List (List ℕ) → RawKernel → Tree
-meaning texts raw = tree_of texts (names_of texts (kernel_notes raw)) raw
+meaning texts raw = tree_of texts (names_of (facts_of texts (kernel_notes raw))) raw
 
 -- a kernel that breaks no rule stands there, and means this tree
 pub record ParsesTo (tokens : Tokenized) (from next : ℕ) (tree : Tree) : Type 0 where

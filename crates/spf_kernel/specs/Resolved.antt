@@ -1,6 +1,7 @@
 -- The public tree that a raw tree means, one case for each production.
-use Rattle.std.specs.Prelude.{ℕ, Bool, true, false, if◌then◌else◌, List, [], ◌∷◌, ◌++◌, Option, None, Some, is_some, fold, map, All, ℤ, pos, neg_ℤ, ◌+ℤ◌}
+use Rattle.std.specs.Prelude.{ℕ, ◌+◌, Bool, true, false, if◌then◌else◌, List, [], ◌∷◌, ◌++◌, Option, None, Some, is_some, fold, map, All, ℤ, pos, neg_ℤ, ◌+ℤ◌}
 use Rattle.std.specs.List.{list_any}
+use Rattle.std.specs.Option.{option_map}
 use Rattle.std.specs.Str.{bytes_eq}
 use Rattle.spf_base.specs.Word.{IsName}
 use Rattle.spf_base.specs.Wrap.{wrap}
@@ -50,9 +51,10 @@ use Rattle.spf_kernel.specs.declared.tree.Decl.{Decl}
 use Rattle.spf_kernel.specs.declared.tree.Decl.TheVariants as decl
 use Rattle.spf_kernel.specs.declared.tree.Trend.{Trend}
 use Rattle.spf_kernel.specs.declared.tree.Tree.{Tree}
+use Rattle.spf_kernel.specs.Facts.{text_of, variables_in}
 use Rattle.spf_kernel.specs.Names.{Names, number_of}
+use Rattle.spf_kernel.specs.Rules.{tokens_that, is_naming}
 use Rattle.spf_kernel.specs.Scopes.{nothing, within, inside}
-use Rattle.spf_kernel.specs.Rules.{text_of, names_variable, tokens_that, is_naming}
 
 -- ---- monomials that are numbers
 
@@ -72,9 +74,10 @@ constant_of ix = fold (λ total (step : RawStep). total +ℤ alone_of (is_some s
 
 -- ---- names
 
--- the variable in scope that a name is, if it is one
-abbrev pub variable_of : List (List ℕ) → Scope → Token → Option ℕ
-variable_of texts scope name = if names_variable texts scope.outer name then Some 0 else (if names_variable texts scope.inner name then Some 1 else None)
+-- the number of the variable in scope that a name is, if it is one
+abbrev pub variable_of : List (List ℕ) → List ℕ → Option ℕ
+variable_of [] name = None
+variable_of (variable ∷ others) name = if bytes_eq name variable then Some 0 else option_map (λ n. 1 + n) (variable_of others name)
 
 module _ (texts : List (List ℕ)) (names : Names) where
   abbrev pub param_of : Token → ℕ
@@ -126,14 +129,14 @@ module _ (texts : List (List ℕ)) (names : Names) (scope : Scope) where
     monos_of minus (raw_mono.Atom atom) = monomial minus 1 (atom_of atom)
 
     pub atom_of : RawAtom → Atom
-    atom_of (RawAtom' name RawAtom-at-None') = bare_atom texts names (variable_of texts scope name) name
+    atom_of (RawAtom' name RawAtom-at-None') = bare_atom texts names (variable_of (variables_in texts scope) (text_of texts name)) name
     atom_of (RawAtom' name (RawAtom-at-Some' shape (more_of-RawIx ix end_of-RawIx))) = atom.App (table_of texts names name) (term_of ix)
 
   -- ---- values
 
   -- a name, and what stands in the brackets behind it
   abbrev pub factor_at : Token → Option RawIx → Factor
-  factor_at name None = bare_factor texts names (variable_of texts scope name) name
+  factor_at name None = bare_factor texts names (variable_of (variables_in texts scope) (text_of texts name)) name
   factor_at name (Some ix) =
       if is_data_array texts names name then factor.Cell (data_array_of texts names name) (term_of ix) else factor.Index (table_of texts names name) (term_of ix)
 

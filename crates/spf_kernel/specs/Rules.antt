@@ -1,16 +1,16 @@
--- The eleven rules. Each is said of a note and of the notes before it, in the order of the text.
-use Rattle.std.specs.Prelude.{ℕ, ◌≡◌, ◌+◌, ◌≤◌, nat_lt, nat_le, Bool, true, false, not, ◌&&◌, ◌||◌, List, [], ◌∷◌, ◌++◌, map, filter, reverse, take_while, count_by, get_or, slice_get, Option, None, Some}
+-- The eleven rules. Each is said of a fact and of the facts before it, in the order of the text.
+use Rattle.std.specs.Prelude.{ℕ, ◌≡◌, ◌+◌, ◌≤◌, nat_le, Bool, true, false, not, ◌&&◌, ◌||◌, List, [], ◌∷◌, ◌++◌, map, filter, reverse, take_while, count_by, slice_get, Some}
 use Rattle.std.specs.List.{list_any}
 use Rattle.std.specs.Str.{bytes_eq}
 use Rattle.std.specs.Char.{is_ascii_uppercase}
 use Rattle.spf_lex.specs.declared.cursor.Token.{Token}
 use Rattle.spf_kernel.specs.declared.note.Note.{Note}
 use Rattle.spf_kernel.specs.declared.note.Says.{Says}
-use Rattle.spf_kernel.specs.declared.note.Says.TheVariants.{Declared, Variable, Used, Number, Expression, Monomial, Factor, Guard, Condition}
+use Rattle.spf_kernel.specs.declared.note.Says.TheVariants.{Declared, Variable, Used, Large, Excess, Factor, Guard, Condition}
 use Rattle.spf_kernel.specs.declared.note.Sort.TheVariants.{Param, Index, Data, Loop}
 use Rattle.spf_kernel.specs.declared.note.Spot.{Spot}
 use Rattle.spf_kernel.specs.declared.note.Spot.TheVariants as spot_is
-use Rattle.spf_kernel.specs.declared.note.Scope.{Scope}
+use Rattle.spf_kernel.specs.Facts.{Fact, fact_of, facts_of}
 
 -- ---- what a note says
 
@@ -32,26 +32,22 @@ is_loop _ = false
 
 abbrev pub is_naming : Says → Bool
 is_naming (Declared sort) = true
-is_naming (Variable outer) = true
+is_naming Variable = true
 is_naming _ = false
 
+abbrev pub is_use : Says → Bool
+is_use (Used brackets spot) = true
+is_use _ = false
+
 abbrev pub is_target : Says → Bool
-is_target (Used brackets spot_is.Target scope) = true
+is_target (Used brackets spot_is.Target) = true
 is_target _ = false
 
 -- a name with brackets in a loop
 abbrev pub is_site : Says → Bool
-is_site (Used brackets spot_is.Head scope) = false
-is_site (Used brackets spot scope) = brackets
+is_site (Used brackets spot_is.Head) = false
+is_site (Used brackets spot) = brackets
 is_site _ = false
-
-abbrev pub is_expression : Says → Bool
-is_expression Expression = true
-is_expression _ = false
-
-abbrev pub is_monomial : Says → Bool
-is_monomial (Monomial spot) = true
-is_monomial _ = false
 
 abbrev pub is_factor : Says → Bool
 is_factor Factor = true
@@ -69,118 +65,120 @@ is_condition _ = false
 abbrev pub tokens_that : (Says → Bool) → List Note → List Token
 tokens_that test notes = map (λ (note : Note). note.token) (filter (λ note. test note.says) notes)
 
-abbrev pub count_that : (Says → Bool) → List Note → ℕ
-count_that test notes = count_by (λ (note : Note). test note.says) notes
+-- the names that have this role
+abbrev pub names_that : (Says → Bool) → List Fact → List (List ℕ)
+names_that test facts = map (λ (fact : Fact). fact.name) (filter (λ (fact : Fact). test fact.says) facts)
 
--- the notes behind the last one that says this, the nearest first
-abbrev pub since : (Says → Bool) → List Note → List Note
-since test notes = take_while (λ (note : Note). not (test note.says)) (reverse notes)
+abbrev pub count_that : (Says → Bool) → List Fact → ℕ
+count_that test facts = count_by (λ (fact : Fact). test fact.says) facts
+
+-- the facts behind the last one of this role, the nearest first
+abbrev pub since : (Says → Bool) → List Fact → List Fact
+since test facts = take_while (λ (fact : Fact). not (test fact.says)) (reverse facts)
 
 -- ---- names
 
+-- a name of this role was declared before
+abbrev pub declares : (Says → Bool) → List Fact → List ℕ → Bool
+declares test before name = list_any (bytes_eq name) (names_that test before)
+
+abbrev pub is_declared : List Fact → List ℕ → Bool
+is_declared before name = declares is_param before name || (declares is_table before name || (declares is_data before name || declares is_loop before name))
+
+abbrev pub is_in_scope : List (List ℕ) → List ℕ → Bool
+is_in_scope variables name = list_any (bytes_eq name) variables
+
+abbrev pub is_known : List Fact → List (List ℕ) → List ℕ → Bool
+is_known before variables name = is_declared before name || is_in_scope variables name
+
+-- where an index array and where a data array may stand
+abbrev pub takes_table : Spot → Bool
+takes_table spot_is.Body = true
+takes_table spot_is.Factor = true
+takes_table spot = false
+
+abbrev pub takes_data : Spot → Bool
+takes_data spot_is.Factor = true
+takes_data spot_is.Target = true
+takes_data spot = false
+
+-- the name is of a kind that may stand there, with brackets or without
+abbrev pub fits : List Fact → List (List ℕ) → List ℕ → Bool → Spot → Bool
+fits before variables name true spot = (takes_table spot && declares is_table before name) || (takes_data spot && declares is_data before name)
+fits before variables name false spot = is_in_scope variables name || declares is_param before name
+
+abbrev pub fits_as : List Fact → List (List ℕ) → List ℕ → Says → Bool
+fits_as before variables name (Used brackets spot) = fits before variables name brackets spot
+fits_as before variables name _ = true
+
+-- ---- the rules
+
+-- 1: a declared name, loop name or variable has a letter from `A` to `Z`
+abbrev pub has_capital : List Fact → Fact → Bool
+has_capital before fact = is_naming fact.says && list_any is_ascii_uppercase fact.name
+
+-- 2: it is a name that was declared before, or an inner variable with the name of the outer one
+abbrev pub is_taken : List Fact → Fact → Bool
+is_taken before fact = is_naming fact.says && is_known before fact.variables fact.name
+
+-- 3: a name is used that was not declared before, and is no variable in scope
+abbrev pub is_unknown : List Fact → Fact → Bool
+is_unknown before fact = is_use fact.says && not (is_known before fact.variables fact.name)
+
+-- 4: a known name is used that may not stand there
+abbrev pub is_misused : List Fact → Fact → Bool
+is_misused before fact = is_use fact.says && (is_known before fact.variables fact.name && not (fits_as before fact.variables fact.name fact.says))
+
+abbrev pub is_large_number : Says → Bool
+is_large_number Large = true
+is_large_number _ = false
+
+-- 5: a number of an index expression passes its limit
+abbrev pub is_large : List Fact → Fact → Bool
+is_large before fact = is_large_number fact.says
+
+abbrev pub late_name : List Fact → Says → Bool
+late_name before (Declared Param) = nat_le 64 (count_that is_param before)
+late_name before (Declared Loop) = false
+late_name before (Declared array) = nat_le 64 (count_that is_table before + count_that is_data before)
+late_name before _ = false
+
+-- 6: a parameter stands behind 64, or an array behind 64
+abbrev pub is_late_name : List Fact → Fact → Bool
+is_late_name before fact = late_name before fact.says
+
+-- 7: a loop stands behind 32
+abbrev pub is_late_loop : List Fact → Fact → Bool
+is_late_loop before fact = is_loop fact.says && nat_le 32 (count_that is_loop before)
+
+-- 8: an assignment stands behind 16 of its loop
+abbrev pub is_late_target : List Fact → Fact → Bool
+is_late_target before fact = is_target fact.says && nat_le 16 (count_that is_target (since is_loop before))
+
+abbrev pub late_part : List Fact → Says → Bool
+late_part before Excess = true
+late_part before Factor = nat_le 64 (count_that is_factor (since is_target before))
+late_part before _ = false
+
+-- 9: a monomial stands behind as many as its index expression may have; a factor behind 64 of its value
+abbrev pub is_late_part : List Fact → Fact → Bool
+is_late_part before fact = late_part before fact.says
+
+-- 10: a condition stands behind four of its `if`
+abbrev pub is_late_condition : List Fact → Fact → Bool
+is_late_condition before fact = is_condition fact.says && nat_le 4 (count_that is_condition (since is_guard before))
+
+-- 11: a name with brackets stands behind 256 of the loops
+abbrev pub is_late_site : List Fact → Fact → Bool
+is_late_site before fact = is_site fact.says && nat_le 256 (count_that is_site before)
+
+-- the rules from 1 on
+abbrev pub rules : List (List Fact → Fact → Bool)
+rules =
+    has_capital ∷ is_taken ∷ is_unknown ∷ is_misused ∷ is_large ∷ is_late_name ∷ is_late_loop ∷ is_late_target ∷ is_late_part
+    ∷ is_late_condition ∷ is_late_site ∷ []
+
 module _ (texts : List (List ℕ)) where
-  abbrev pub text_of : Token → List ℕ
-  text_of token = get_or texts token.at []
-
-  abbrev pub same_text : Token → Token → Bool
-  same_text a b = bytes_eq (text_of a) (text_of b)
-
-  -- a name that says this was declared with the text of `name`
-  abbrev pub declares : (Says → Bool) → List Note → Token → Bool
-  declares test before name = list_any (same_text name) (tokens_that test before)
-
-  abbrev pub is_declared : List Note → Token → Bool
-  is_declared before name = declares is_param before name || (declares is_table before name || (declares is_data before name || declares is_loop before name))
-
-  abbrev pub names_variable : Option Token → Token → Bool
-  names_variable None name = false
-  names_variable (Some variable) name = same_text name variable
-
-  abbrev pub is_in_scope : Scope → Token → Bool
-  is_in_scope scope name = names_variable scope.outer name || names_variable scope.inner name
-
-  -- where an index array and where a data array may stand
-  abbrev pub takes_table : Spot → Bool
-  takes_table spot_is.Body = true
-  takes_table spot_is.Factor = true
-  takes_table spot = false
-
-  abbrev pub takes_data : Spot → Bool
-  takes_data spot_is.Factor = true
-  takes_data spot_is.Target = true
-  takes_data spot = false
-
-  -- the name is of a kind that may stand there, with brackets or without
-  abbrev pub fits : List Note → Token → Bool → Spot → Scope → Bool
-  fits before name true spot scope = (takes_table spot && declares is_table before name) || (takes_data spot && declares is_data before name)
-  fits before name false spot scope = is_in_scope scope name || declares is_param before name
-
-  abbrev pub is_outer_of : Token → Says → Bool
-  is_outer_of name (Variable outer) = names_variable outer name
-  is_outer_of name _ = false
-
-  -- ---- the rules
-
-  -- 1: a declared name, loop name or variable has a letter from `A` to `Z`
-  abbrev pub has_capital : List Note → Token → Says → Bool
-  has_capital before token says = is_naming says && list_any is_ascii_uppercase (text_of token)
-
-  -- 2: it is a name that was declared before, or an inner variable with the name of the outer one
-  abbrev pub is_taken : List Note → Token → Says → Bool
-  is_taken before token says = is_naming says && (is_declared before token || is_outer_of token says)
-
-  -- 3: a name is used that was not declared before, and is no variable in scope
-  abbrev pub is_unknown : List Note → Token → Says → Bool
-  is_unknown before token (Used brackets spot scope) = not (is_declared before token || is_in_scope scope token)
-  is_unknown before token _ = false
-
-  -- 4: a known name is used that may not stand there
-  abbrev pub is_misused : List Note → Token → Says → Bool
-  is_misused before token (Used brackets spot scope) = (is_declared before token || is_in_scope scope token) && not (fits before token brackets spot scope)
-  is_misused before token _ = false
-
-  -- 5: a number of an index expression passes its limit
-  abbrev pub is_large : List Note → Token → Says → Bool
-  is_large before token (Number true) = nat_lt 1048576 token.value
-  is_large before token (Number false) = nat_lt 4194304 token.value
-  is_large before token _ = false
-
-  -- 6: a parameter stands behind 64, or an array behind 64
-  abbrev pub is_late_name : List Note → Token → Says → Bool
-  is_late_name before token (Declared Param) = nat_le 64 (count_that is_param before)
-  is_late_name before token (Declared Loop) = false
-  is_late_name before token (Declared array) = nat_le 64 (count_that is_table before + count_that is_data before)
-  is_late_name before token _ = false
-
-  -- 7: a loop stands behind 32
-  abbrev pub is_late_loop : List Note → Token → Says → Bool
-  is_late_loop before token says = is_loop says && nat_le 32 (count_that is_loop before)
-
-  -- 8: an assignment stands behind 16 of its loop
-  abbrev pub is_late_target : List Note → Token → Says → Bool
-  is_late_target before token says = is_target says && nat_le 16 (count_that is_target (since is_loop before))
-
-  -- 9: a monomial stands behind 64 of its index expression, or behind 8 of the bound of a loop; a factor behind 64 of its value
-  abbrev pub is_late_part : List Note → Token → Says → Bool
-  is_late_part before token (Monomial spot_is.Bound) = nat_le 8 (count_that is_monomial (since is_expression before))
-  is_late_part before token (Monomial spot) = nat_le 64 (count_that is_monomial (since is_expression before))
-  is_late_part before token Factor = nat_le 64 (count_that is_factor (since is_target before))
-  is_late_part before token _ = false
-
-  -- 10: a condition stands behind four of its `if`
-  abbrev pub is_late_condition : List Note → Token → Says → Bool
-  is_late_condition before token says = is_condition says && nat_le 4 (count_that is_condition (since is_guard before))
-
-  -- 11: a name with brackets stands behind 256 of the loops
-  abbrev pub is_late_site : List Note → Token → Says → Bool
-  is_late_site before token says = is_site says && nat_le 256 (count_that is_site before)
-
-  -- the rules from 1 on
-  abbrev pub rules : List (List Note → Token → Says → Bool)
-  rules =
-      has_capital ∷ is_taken ∷ is_unknown ∷ is_misused ∷ is_large ∷ is_late_name ∷ is_late_loop ∷ is_late_target ∷ is_late_part
-      ∷ is_late_condition ∷ is_late_site ∷ []
-
   -- the token at `place` breaks the rule
   pub record Breaks (notes : List Note) (place rule : ℕ) : Type 0 where
     pub before : List Note
@@ -188,9 +186,9 @@ module _ (texts : List (List ℕ)) where
     pub after : List Note
     pub splits : notes ≡ before ++ note ∷ after
     pub there : note.token.at ≡ place
-    pub test : List Note → Token → Says → Bool
+    pub test : List Fact → Fact → Bool
     pub number : (n : ℕ) × (rule ≡ n + 1) × (slice_get rules n ≡ Some test)
-    pub broken : test before note.token note.says ≡ true
+    pub broken : test (facts_of texts before) (fact_of texts note) ≡ true
 
   -- the least place at which a rule is broken, and the least rule that is broken there
   pub record IsFirstBreach (notes : List Note) (place rule : ℕ) : Type 0 where

@@ -1,13 +1,13 @@
 -- The variables that are in scope.
-use Rattle.std.specs.Prelude.{None, Some}
 use Rattle.spf_lex.specs.declared.cursor.Token.{Token}
 use Rattle.spf_kernel.specs.declared.note.Scope.{Scope}
+use Rattle.spf_kernel.specs.declared.note.Scope.TheVariants.{Nothing, Within, Inside}
 
 abbrev pub nothing : Scope
-nothing = record { outer = None; inner = None }
+nothing = Nothing
 
 abbrev pub within : Token → Scope
-within outer = record { outer = Some outer; inner = None }
+within outer = Within outer
 
 abbrev pub inside : Token → Token → Scope
-inside outer inner = record { outer = Some outer; inner = Some inner }
+inside outer inner = Inside outer inner

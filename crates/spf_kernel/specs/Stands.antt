@@ -5,8 +5,8 @@ use Rattle.spf_lex.specs.BundleWords.{bundle_words}
 use Rattle.spf_lex.specs.Standing as standing
 use Rattle.spf_lex.specs.Tokens.{Tokenized}
 use Rattle.spf_lex.specs.declared.text_kind.TextKind.{TextKind}
-use Rattle.spf_kernel.specs.Productions.{kernel}
 use Rattle.spf_kernel.specs.declared.raw.RawKernel.{RawKernel}
+use Rattle.spf_kernel.specs.Productions.{kernel}
 
 -- a kernel with this raw tree stands from token `from` up to token `next`
 abbrev pub StandsAt : Tokenized → ℕ → ℕ → RawKernel → Type 0

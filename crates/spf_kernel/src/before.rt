@@ -1,10 +1,10 @@
-//! What the rules ask of the notes before a note.
+//! What the rules ask of the facts before one.
 
-ghost use Rattle.std.specs.Prelude.{◌≡◌, ◌^◌, ◌||◌, List, ℕ, [], ◌∷◌, ◌++◌, OnOk};
+ghost use Rattle.std.specs.Prelude.{◌≡◌, ◌^◌, ◌||◌, List, [], ◌∷◌, ◌++◌, OnOk};
 ghost use Rattle.std.specs.List.{list_any};
 ghost use Rattle.std.specs.Str.{bytes_eq};
 ghost use Rattle.spf_lex.specs.Tokens.{texts};
-ghost use Rattle.spf_kernel.specs.declared.note.Note.{Note};
+ghost use Rattle.spf_kernel.specs.Facts.{Fact, fact_of};
 ghost use Rattle.spf_kernel.specs.Counts.{IsBelow};
 ghost use Rattle.spf_kernel.specs.Before.{before_of};
 ghost use Rattle.spf_kernel.specs.Names.{IsShort};
@@ -16,7 +16,7 @@ use spf_base::NoMemory;
 use spf_lex::Tokens;
 use std::alloc::Global;
 
-/// What the rules ask of the notes before a note: how many say what, and which names they declare.
+/// What the rules ask of the facts before one: how many have which role, and which names they declare.
 #[derive(Drop)]
 pub(crate) struct Before<'a> {
     pub counts: Counts,
@@ -27,9 +27,9 @@ pub(crate) struct Before<'a> {
 }
 
 impl<'a> Before<'a> {
-    /// What stands before the first note.
+    /// What stands before the first fact.
     pub(crate) fn new(alloc: Global) -> Before<'a>
-        ensures { (texts : List (List ℕ)) → result ≡ before_of texts [] }
+        ensures { result ≡ before_of [] }
     {
         Before {
             counts: Counts::new(),
@@ -50,10 +50,10 @@ impl<'a> Before<'a> {
             || self.loops.contains(name)
     }
 
-    /// Takes the note to those before. Linear in its name on average.
+    /// Takes the fact to those before. Linear in its name on average.
     pub(crate) fn add(&mut self, tokens: &'a Tokens, note: &Note) -> Result<(), NoMemory>
         requires { IsBelow (2 ^ 63) self.old.counts }
-        ensures { OnOk result ((before : List Note) → self.old ≡ before_of (texts tokens.now) before → self.new ≡ before_of (texts tokens.now) (before ++ note.now ∷ [])) }
+        ensures { OnOk result ((before : List Fact) → self.old ≡ before_of before → self.new ≡ before_of (before ++ fact_of (texts tokens.now) note.now ∷ [])) }
     {
         self.counts = self.counts.with(note);
         let name = text_of(tokens, note.token);

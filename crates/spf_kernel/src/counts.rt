@@ -1,13 +1,13 @@
-//! How many notes say what the limits are about.
+//! How many facts have the roles that the limits are about.
 
-ghost use Rattle.std.specs.Prelude.{◌≡◌, ◌^◌, List, [], ◌∷◌, ◌++◌};
-ghost use Rattle.spf_kernel.specs.declared.note.Note.{Note};
+ghost use Rattle.std.specs.Prelude.{◌≡◌, ◌^◌, ℕ, List, [], ◌∷◌, ◌++◌};
+ghost use Rattle.spf_kernel.specs.Facts.{Fact, fact_of};
 ghost use Rattle.spf_kernel.specs.Counts.{counts_of, IsBelow};
 ghost use Rattle.spf_kernel.specs.Rules.{is_site};
 
 use crate::note::{Note, Says, Sort, Spot};
 
-/// How many notes say what the limits are about.
+/// How many facts have the roles that the limits are about.
 #[derive(Clone, Copy)]
 pub(crate) struct Counts {
     pub params: usize,
@@ -16,8 +16,6 @@ pub(crate) struct Counts {
     pub loops: usize,
     /// Targets behind the last loop's name.
     pub targets: usize,
-    /// Monomials of the last index expression.
-    pub monomials: usize,
     /// Factors behind the last target.
     pub factors: usize,
     /// Conditions of the last `if`.
@@ -49,18 +47,17 @@ impl Counts {
             data_arrays: 0,
             loops: 0,
             targets: 0,
-            monomials: 0,
             factors: 0,
             conditions: 0,
             sites: 0,
         }
     }
 
-    /// The counts with one note more.
+    /// The counts with a fact more.
     #[tactic(auto, using(crate::proofs::Counting::counts_after))]
     pub(crate) fn with(self, note: &Note) -> Counts
         requires { IsBelow (2 ^ 63) self }
-        ensures { (before : List Note) → self ≡ counts_of before → result ≡ counts_of (before ++ note.now ∷ []) }
+        ensures { (texts : List (List ℕ)) (before : List Fact) → self ≡ counts_of before → result ≡ counts_of (before ++ fact_of texts note.now ∷ []) }
     {
         let sites = self.sites + usize::from(is_site(note.says));
         let counts = Counts { sites, ..self };
@@ -90,14 +87,6 @@ impl Counts {
                 factors: 0,
                 ..counts
             },
-            Says::Expression => Counts {
-                monomials: 0,
-                ..counts
-            },
-            Says::Monomial(_) => Counts {
-                monomials: self.monomials + 1,
-                ..counts
-            },
             Says::Factor => Counts {
                 factors: self.factors + 1,
                 ..counts
@@ -110,7 +99,7 @@ impl Counts {
                 conditions: self.conditions + 1,
                 ..counts
             },
-            Says::Used { .. } | Says::Variable(_) | Says::Number { .. } => counts,
+            Says::Used { .. } | Says::Variable | Says::Large | Says::Excess => counts,
         }
     }
 }

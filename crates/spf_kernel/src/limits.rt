@@ -2,18 +2,12 @@
 #![tactic(auto, using(crate::proofs::Counting::is_counted))]
 
 ghost use Rattle.std.specs.Prelude.{◌≡◌, ◌^◌, List, ℕ};
-ghost use Rattle.spf_kernel.specs.declared.note.Note.{Note};
+ghost use Rattle.spf_kernel.specs.Facts.{Fact, fact_of};
 ghost use Rattle.spf_kernel.specs.Rules.{is_large, is_late_name, is_late_loop, is_late_target, is_late_part, is_late_condition, is_late_site};
 ghost use Rattle.spf_kernel.specs.Counts.{IsBelow, TellsByCounts};
 
 use crate::counts::{Counts, is_site};
 use crate::note::{Note, Says, Sort, Spot};
-
-/// How large a factor of an index expression is at most.
-const LARGEST_FACTOR: u64 = 1 << 20;
-
-/// How large a number of an index expression is at most.
-const LARGEST_NUMBER: u64 = 1 << 22;
 
 const MOST_PARAMS: usize = 64;
 
@@ -23,12 +17,6 @@ const MOST_LOOPS: usize = 32;
 
 /// Of a loop.
 const MOST_TARGETS: usize = 16;
-
-/// Of an index expression.
-const MOST_MONOMIALS: usize = 64;
-
-/// Of a loop's bound.
-const MOST_BOUND_MONOMIALS: usize = 8;
 
 /// Of a value.
 const MOST_FACTORS: usize = 64;
@@ -41,13 +29,9 @@ const MOST_SITES: usize = 256;
 
 /// 5: a number of an index expression passes its limit.
 pub(crate) fn is_large(note: &Note) -> bool
-    ensures { (texts : List (List ℕ)) (notes : List Note) → result ≡ is_large texts notes note.now.token note.now.says }
+    ensures { (texts : List (List ℕ)) (facts : List Fact) → result ≡ is_large facts (fact_of texts note.now) }
 {
-    match note.says {
-        Says::Number { times: true } => note.token.value > LARGEST_FACTOR,
-        Says::Number { times: false } => note.token.value > LARGEST_NUMBER,
-        _ => false,
-    }
+    matches!(note.says, Says::Large)
 }
 
 /// 6: a parameter stands behind 64, or an array behind 64.
@@ -87,14 +71,12 @@ pub(crate) fn is_late_target(before: &Counts, note: &Note) -> bool
     }
 }
 
-/// 9: a monomial stands behind 64 of its index expression, or behind 8 of the bound of a loop; a factor behind 64 of its
-/// value.
+/// 9: a monomial stands behind as many as its index expression may have; a factor behind 64 of its value.
 pub(crate) fn is_late_part(before: &Counts, note: &Note) -> bool
     ensures { TellsByCounts is_late_part before.now note.now result }
 {
     match note.says {
-        Says::Monomial(Spot::Bound) => before.monomials >= MOST_BOUND_MONOMIALS,
-        Says::Monomial(_) => before.monomials >= MOST_MONOMIALS,
+        Says::Excess => true,
         Says::Factor => before.factors >= MOST_FACTORS,
         _ => false,
     }

@@ -1,69 +1,57 @@
 //! Rules 1 to 4: which names may be declared, and which may stand where.
-#![tactic(auto, using(crate::proofs::Declared::is_known))]
+#![tactic(auto, using(crate::proofs::Declared::known_from))]
 
-ghost use Rattle.std.specs.Prelude.{◌≡◌, ◌||◌, true, false, List};
+ghost use Rattle.std.specs.Prelude.{ℕ, ◌≡◌, true, false, List};
 ghost use Rattle.std.specs.List.{list_any};
 ghost use Rattle.std.specs.Char.{is_ascii_uppercase};
 ghost use Rattle.spf_lex.specs.Tokens.{texts};
-ghost use Rattle.spf_kernel.specs.declared.note.Note.{Note};
 ghost use Rattle.spf_kernel.specs.declared.note.Spot.{Spot};
-ghost use Rattle.spf_kernel.specs.declared.note.Scope.{Scope};
-ghost use Rattle.spf_kernel.specs.Rules.{is_naming, has_capital, is_taken, is_unknown, is_misused, is_declared, is_in_scope, names_variable, fits};
+ghost use Rattle.spf_kernel.specs.Facts.{Fact, fact_of, variables_in};
+ghost use Rattle.spf_kernel.specs.Rules.{has_capital, is_taken, is_unknown, is_misused, is_in_scope, is_known, fits};
 ghost use Rattle.spf_kernel.specs.Before.{Tells, before_of};
 
 use crate::before::Before;
 use crate::names::text_of;
 use crate::note::{Note, Says, Scope, Spot};
-use spf_lex::{Token, Tokens};
+use spf_lex::Tokens;
 
-/// Whether the name is that of the variable. Linear in it.
-fn names_variable(tokens: &Tokens, variable: Option<Token>, name: Token) -> bool
-    ensures { result ≡ names_variable (texts tokens.now) variable name }
+/// Whether the name is that of a variable in scope. Linear in it.
+fn is_in_scope(tokens: &Tokens, scope: Scope, name: &[u8]) -> bool
+    ensures { result ≡ is_in_scope (variables_in (texts tokens.now) scope) name.now }
 {
-    match variable {
-        Some(variable) => text_of(tokens, name) == text_of(tokens, variable),
-        None => false,
+    match scope {
+        Scope::Nothing => false,
+        Scope::Within(outer) => name == text_of(tokens, outer),
+        Scope::Inside(outer, inner) => {
+            name == text_of(tokens, outer) || name == text_of(tokens, inner)
+        }
     }
 }
 
-/// Whether the name is that of a variable in scope. Linear in it.
-fn is_in_scope(tokens: &Tokens, scope: Scope, name: Token) -> bool
-    ensures { result ≡ is_in_scope (texts tokens.now) scope name }
+/// Whether the name was declared, or is that of a variable in scope. Linear in it on average.
+fn is_known(tokens: &Tokens, before: &Before, scope: Scope, name: &[u8]) -> bool
+    ensures { (facts : List Fact) → before.now ≡ before_of facts → result ≡ is_known facts (variables_in (texts tokens.now) scope) name.now }
 {
-    names_variable(tokens, scope.outer, name) || names_variable(tokens, scope.inner, name)
-}
-
-/// Whether the name was declared. Linear in it on average.
-fn is_declared(tokens: &Tokens, before: &Before, name: Token) -> bool
-    ensures { (notes : List Note) → before.now ≡ before_of (texts tokens.now) notes → result ≡ is_declared (texts tokens.now) notes name }
-{
-    before.declares(text_of(tokens, name))
+    before.declares(name) || is_in_scope(tokens, scope, name)
 }
 
 /// Whether the name may stand there with brackets. Linear in it on average.
-fn fits_with_brackets(tokens: &Tokens, before: &Before, name: Token, spot: Spot) -> bool
-    ensures { (notes : List Note) (scope : Scope) → before.now ≡ before_of (texts tokens.now) notes → result ≡ fits (texts tokens.now) notes name true spot scope }
+fn fits_with_brackets(before: &Before, name: &[u8], spot: Spot) -> bool
+    ensures { (facts : List Fact) (variables : List (List ℕ)) → before.now ≡ before_of facts → result ≡ fits facts variables name.now true spot }
 {
-    let text = text_of(tokens, name);
     match spot {
         Spot::Head | Spot::Bound => false,
-        Spot::Body => before.tables.contains(text),
-        Spot::Factor => before.tables.contains(text) || before.data_arrays.contains(text),
-        Spot::Target => before.data_arrays.contains(text),
+        Spot::Body => before.tables.contains(name),
+        Spot::Factor => before.tables.contains(name) || before.data_arrays.contains(name),
+        Spot::Target => before.data_arrays.contains(name),
     }
 }
 
 /// Whether the name may stand there without brackets. Linear in it on average.
-fn fits_bare(tokens: &Tokens, before: &Before, name: Token, scope: Scope) -> bool
-    ensures { (notes : List Note) (spot : Spot) → before.now ≡ before_of (texts tokens.now) notes → result ≡ fits (texts tokens.now) notes name false spot scope }
+fn fits_bare(tokens: &Tokens, before: &Before, scope: Scope, name: &[u8]) -> bool
+    ensures { (facts : List Fact) (spot : Spot) → before.now ≡ before_of facts → result ≡ fits facts (variables_in (texts tokens.now) scope) name.now false spot }
 {
-    is_in_scope(tokens, scope, name) || before.params.contains(text_of(tokens, name))
-}
-
-fn is_naming(says: Says) -> bool
-    ensures { result ≡ is_naming says }
-{
-    matches!(says, Says::Declared(_) | Says::Variable(_))
+    is_in_scope(tokens, scope, name) || before.params.contains(name)
 }
 
 /// Whether the text has a letter from `A` to `Z`. Linear in it.
@@ -75,9 +63,12 @@ fn has_upper(text: &[u8]) -> bool
 
 /// 1: a declared name, loop name or variable has a letter from `A` to `Z`. Linear in the name.
 pub(crate) fn has_capital(tokens: &Tokens, note: &Note) -> bool
-    ensures { (notes : List Note) → result ≡ has_capital (texts tokens.now) notes note.now.token note.now.says }
+    ensures { (facts : List Fact) → result ≡ has_capital facts (fact_of (texts tokens.now) note.now) }
 {
-    is_naming(note.says) && has_upper(text_of(tokens, note.token))
+    match note.says {
+        Says::Declared(_) | Says::Variable => has_upper(text_of(tokens, note.token)),
+        _ => false,
+    }
 }
 
 /// 2: it is a name that was declared before, or an inner variable with the name of the outer one. Linear in it on average.
@@ -85,19 +76,11 @@ pub(crate) fn is_taken(tokens: &Tokens, before: &Before, note: &Note) -> bool
     ensures { Tells is_taken (texts tokens.now) before.now note.now result }
 {
     match note.says {
-        Says::Declared(_) => is_declared(tokens, before, note.token),
-        Says::Variable(outer) => {
-            is_declared(tokens, before, note.token) || names_variable(tokens, outer, note.token)
+        Says::Declared(_) | Says::Variable => {
+            is_known(tokens, before, note.scope, text_of(tokens, note.token))
         }
         _ => false,
     }
-}
-
-/// Whether the name was declared, or is that of a variable in scope. Linear in it on average.
-fn is_known(tokens: &Tokens, before: &Before, name: Token, scope: Scope) -> bool
-    ensures { (notes : List Note) → before.now ≡ before_of (texts tokens.now) notes → result ≡ (is_declared (texts tokens.now) notes name || is_in_scope (texts tokens.now) scope name) }
-{
-    is_declared(tokens, before, name) || is_in_scope(tokens, scope, name)
 }
 
 /// 3: a name is used that was not declared before, and is no variable in scope. Linear in it on average.
@@ -105,7 +88,7 @@ pub(crate) fn is_unknown(tokens: &Tokens, before: &Before, note: &Note) -> bool
     ensures { Tells is_unknown (texts tokens.now) before.now note.now result }
 {
     match note.says {
-        Says::Used { scope, .. } => !is_known(tokens, before, note.token, scope),
+        Says::Used { .. } => !is_known(tokens, before, note.scope, text_of(tokens, note.token)),
         _ => false,
     }
 }
@@ -114,17 +97,17 @@ pub(crate) fn is_unknown(tokens: &Tokens, before: &Before, note: &Note) -> bool
 fn fits(
     tokens: &Tokens,
     before: &Before,
-    name: Token,
+    scope: Scope,
+    name: &[u8],
     brackets: bool,
     spot: Spot,
-    scope: Scope,
 ) -> bool
-    ensures { (notes : List Note) → before.now ≡ before_of (texts tokens.now) notes → result ≡ fits (texts tokens.now) notes name brackets spot scope }
+    ensures { (facts : List Fact) → before.now ≡ before_of facts → result ≡ fits facts (variables_in (texts tokens.now) scope) name.now brackets spot }
 {
     if brackets {
-        fits_with_brackets(tokens, before, name, spot)
+        fits_with_brackets(before, name, spot)
     } else {
-        fits_bare(tokens, before, name, scope)
+        fits_bare(tokens, before, scope, name)
     }
 }
 
@@ -133,13 +116,10 @@ pub(crate) fn is_misused(tokens: &Tokens, before: &Before, note: &Note) -> bool
     ensures { Tells is_misused (texts tokens.now) before.now note.now result }
 {
     match note.says {
-        Says::Used {
-            brackets,
-            spot,
-            scope,
-        } => {
-            is_known(tokens, before, note.token, scope)
-                && !fits(tokens, before, note.token, brackets, spot, scope)
+        Says::Used { brackets, spot } => {
+            let name = text_of(tokens, note.token);
+            is_known(tokens, before, note.scope, name)
+                && !fits(tokens, before, note.scope, name, brackets, spot)
         }
         _ => false,
     }

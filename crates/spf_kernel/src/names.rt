@@ -5,7 +5,7 @@ ghost use Rattle.std.specs.List.{list_any, position_or_len};
 ghost use Rattle.std.specs.Str.{bytes_eq};
 ghost use Rattle.indexmap.specs.IndexSet.{insert_key};
 ghost use Rattle.spf_lex.specs.Tokens.{texts};
-ghost use Rattle.spf_kernel.specs.Rules.{text_of};
+ghost use Rattle.spf_kernel.specs.Facts.{text_of};
 
 use indexmap::IndexSet;
 use spf_base::NoMemory;

@@ -1,8 +1,5 @@
 //! What a kernel says, one note behind another in the order of its text, as far as the rules are about it.
 
-ghost use Rattle.std.specs.Prelude.{◌≡◌};
-ghost use Rattle.spf_kernel.specs.Scopes as scope;
-
 use spf_lex::Token;
 
 /// What a declared name is.
@@ -33,41 +30,13 @@ pub enum Spot {
 
 /// The variables that are in scope, by the tokens that name them.
 #[derive(Clone, Copy)]
-pub struct Scope {
-    pub outer: Option<Token>,
-    pub inner: Option<Token>,
-}
-
-impl Scope {
-    /// No variable is in scope.
-    pub fn nothing() -> Scope
-        ensures { result ≡ scope.nothing }
-    {
-        Scope {
-            outer: None,
-            inner: None,
-        }
-    }
-
+pub enum Scope {
+    /// No variable is.
+    Nothing,
     /// That of the loop is.
-    pub fn within(outer: Token) -> Scope
-        ensures { result ≡ scope.within outer }
-    {
-        Scope {
-            outer: Some(outer),
-            inner: None,
-        }
-    }
-
+    Within(Token),
     /// That of the loop and that of the `for` are.
-    pub fn inside(outer: Token, inner: Token) -> Scope
-        ensures { result ≡ scope.inside outer inner }
-    {
-        Scope {
-            outer: Some(outer),
-            inner: Some(inner),
-        }
-    }
+    Inside(Token, Token),
 }
 
 /// What is said of a token.
@@ -76,21 +45,13 @@ pub enum Says {
     /// A parameter, an array or a loop gets its name.
     Declared(Sort),
     /// A variable gets its name; that of a `for` stands in a loop with the outer one.
-    Variable(Option<Token>),
+    Variable,
     /// A name is used, with brackets or without.
-    Used {
-        brackets: bool,
-        spot: Spot,
-        scope: Scope,
-    },
-    /// A number of an index expression, in front of `*` or not.
-    Number {
-        times: bool,
-    },
-    /// An index expression begins.
-    Expression,
-    /// A monomial of an index expression begins.
-    Monomial(Spot),
+    Used { brackets: bool, spot: Spot },
+    /// A number of an index expression passes its limit.
+    Large,
+    /// A monomial stands behind as many as its index expression may have.
+    Excess,
     /// A factor of a value, other than a value in parentheses.
     Factor,
     /// An `if` begins.
@@ -99,9 +60,10 @@ pub enum Says {
     Condition,
 }
 
-/// One thing that is said, and the token that it is said of.
+/// One thing that is said, the token that it is said of, and the variables that are in scope there.
 #[derive(Clone, Copy)]
 pub struct Note {
     pub token: Token,
     pub says: Says,
+    pub scope: Scope,
 }

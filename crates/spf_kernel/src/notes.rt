@@ -1,7 +1,7 @@
 //! The notes of a raw tree.
 
-ghost use Rattle.std.specs.Prelude.{◌≡◌, [], ◌∷◌, ◌++◌, map, flat_map, OnOk, IfOk};
-ghost use Rattle.spf_kernel.specs.Notes.{note, mono_head, ix_notes, mono_notes, atom_notes, expression_head, expression_notes, read_notes, fact_notes, value_notes};
+ghost use Rattle.std.specs.Prelude.{◌≡◌, ◌-◌, [], ◌∷◌, ◌++◌, length, map, flat_map, OnOk, IfOk};
+ghost use Rattle.spf_kernel.specs.Notes.{note, mark, mono_head, number_limit, number_notes, ix_monomials, mono_monomials, atom_monomials, monomial_limit, excess_notes, ix_notes, mono_notes, atom_notes, expression_notes, read_notes, fact_notes, value_notes};
 ghost use Rattle.spf_kernel.specs.Notes.{ix_head, conds_head, assign_notes, cond_notes, guard_notes, part_notes, item_notes, loop_notes, cells_notes, param_note, head_notes, decl_notes, kernel_notes};
 
 use crate::note::{Note, Says, Scope, Sort, Spot};
@@ -17,6 +17,18 @@ use std::alloc::Global;
 /// Where an index expression has no monomial, or an `if` no condition, which is nowhere.
 const NO_TOKEN: Token = Token { at: 0, value: 0 };
 
+/// How large a number of an index expression is at most.
+const LARGEST_NUMBER: u64 = 1 << 22;
+
+/// How large such a number is in front of `*` at most.
+const LARGEST_FACTOR: u64 = 1 << 20;
+
+/// Of an index expression.
+const MOST_MONOMIALS: usize = 64;
+
+/// Of a loop's bound.
+const MOST_BOUND_MONOMIALS: usize = 8;
+
 /// The first token of a monomial.
 fn mono_head(mono: &RawMono) -> Token
     ensures { result ≡ mono_head mono.now }
@@ -28,11 +40,42 @@ fn mono_head(mono: &RawMono) -> Token
 }
 
 /// Writes a note behind the others.
-fn push(notes: &mut Items<Note>, token: Token, says: Says) -> Result<(), NoMemory>
-    ensures { OnOk result (notes.new ≡ notes.old ++ note token says ∷ []) }
+fn push(notes: &mut Items<Note>, token: Token, says: Says, scope: Scope) -> Result<(), NoMemory>
+    ensures { OnOk result (notes.new ≡ notes.old ++ note token says scope ∷ []) }
 {
-    notes.push(Note { token, says })?;
+    notes.push(Note { token, says, scope })?;
     Ok(())
+}
+
+/// Writes a note that is of no name.
+fn push_mark(notes: &mut Items<Note>, token: Token, says: Says) -> Result<(), NoMemory>
+    ensures { OnOk result (notes.new ≡ notes.old ++ mark token says ∷ []) }
+{
+    push(notes, token, says, Scope::Nothing)
+}
+
+// ---- index expressions
+
+/// How large a number may be, in front of `*` or not.
+fn number_limit(times: bool) -> u64
+    ensures { result ≡ number_limit times }
+{
+    if times {
+        LARGEST_FACTOR
+    } else {
+        LARGEST_NUMBER
+    }
+}
+
+/// Rule 5, of one number.
+fn note_number(notes: &mut Items<Note>, times: bool, number: Token) -> Result<(), NoMemory>
+    ensures { OnOk result (notes.new ≡ notes.old ++ number_notes times number) }
+{
+    if number.value > number_limit(times) {
+        push_mark(notes, number, Says::Large)
+    } else {
+        Ok(())
+    }
 }
 
 #[cycle(ix)]
@@ -44,12 +87,8 @@ fn note_atom(
 ) -> Result<(), NoMemory>
     ensures { OnOk result (notes.new ≡ notes.old ++ atom_notes spot scope atom.now) }
 {
-    let says = Says::Used {
-        brackets: atom.at.is_some(),
-        spot,
-        scope,
-    };
-    push(notes, atom.name, says)?;
+    let brackets = atom.at.is_some();
+    push(notes, atom.name, Says::Used { brackets, spot }, scope)?;
     match &atom.at {
         Some(at) => note_ix(notes, spot, scope, at.get()),
         None => Ok(()),
@@ -65,11 +104,10 @@ fn note_mono(
 ) -> Result<(), NoMemory>
     ensures { OnOk result (notes.new ≡ notes.old ++ mono_notes spot scope mono.now) }
 {
-    push(notes, mono_head(mono), Says::Monomial(spot))?;
     match mono {
-        RawMono::Number(number, None) => push(notes, *number, Says::Number { times: false }),
+        RawMono::Number(number, None) => note_number(notes, false, *number),
         RawMono::Number(number, Some(atom)) => {
-            push(notes, *number, Says::Number { times: true })?;
+            note_number(notes, true, *number)?;
             note_atom(notes, spot, scope, atom)
         }
         RawMono::Atom(atom) => note_atom(notes, spot, scope, atom),
@@ -86,13 +124,75 @@ fn note_ix(notes: &mut Items<Note>, spot: Spot, scope: Scope, ix: &RawIx) -> Res
     Ok(())
 }
 
-/// The first token of the first monomial.
-fn expression_head(ix: &RawIx) -> Token
-    ensures { result ≡ expression_head ix.now }
+/// Rule 9, of one monomial: where there is no room for it, it is noted. Gives the room that is left.
+fn note_monomial(notes: &mut Items<Note>, room: usize, token: Token) -> Result<usize, NoMemory>
+    ensures notes { OnOk result (notes.new ≡ notes.old ++ excess_notes room (token ∷ [])) }
+    ensures left { IfOk result (λ left. left ≡ room - 1) }
 {
-    match ix.steps.as_slice() {
-        [first, ..] => mono_head(&first.mono),
-        [] => NO_TOKEN,
+    if room == 0 {
+        push_mark(notes, token, Says::Excess)?;
+        return Ok(0);
+    }
+    Ok(room - 1)
+}
+
+#[cycle(excess)]
+fn excess_in_atom(notes: &mut Items<Note>, room: usize, atom: &RawAtom) -> Result<usize, NoMemory>
+    ensures notes { OnOk result (notes.new ≡ notes.old ++ excess_notes room (atom_monomials atom.now)) }
+    ensures left { IfOk result (λ left. left ≡ room - length (atom_monomials atom.now)) }
+{
+    match &atom.at {
+        Some(at) => excess_in_ix(notes, room, at.get()),
+        None => Ok(room),
+    }
+}
+
+/// A monomial of this first token, and those in the brackets of its atom.
+#[cycle(excess)]
+fn excess_from(
+    notes: &mut Items<Note>,
+    room: usize,
+    token: Token,
+    atom: &RawAtom,
+) -> Result<usize, NoMemory>
+    ensures notes { OnOk result (notes.new ≡ notes.old ++ excess_notes room (token ∷ atom_monomials atom.now)) }
+    ensures left { IfOk result (λ left. left ≡ room - length (token ∷ atom_monomials atom.now)) }
+{
+    let left = note_monomial(notes, room, token)?;
+    excess_in_atom(notes, left, atom)
+}
+
+#[cycle(excess)]
+fn excess_in_mono(notes: &mut Items<Note>, room: usize, mono: &RawMono) -> Result<usize, NoMemory>
+    ensures notes { OnOk result (notes.new ≡ notes.old ++ excess_notes room (mono_monomials mono.now)) }
+    ensures left { IfOk result (λ left. left ≡ room - length (mono_monomials mono.now)) }
+{
+    match mono {
+        RawMono::Number(number, None) => note_monomial(notes, room, *number),
+        RawMono::Number(number, Some(atom)) => excess_from(notes, room, *number, atom),
+        RawMono::Atom(atom) => excess_from(notes, room, atom.name, atom),
+    }
+}
+
+#[cycle(excess)]
+fn excess_in_ix(notes: &mut Items<Note>, room: usize, ix: &RawIx) -> Result<usize, NoMemory>
+    ensures notes { OnOk result (notes.new ≡ notes.old ++ excess_notes room (ix_monomials ix.now)) }
+    ensures left { IfOk result (λ left. left ≡ room - length (ix_monomials ix.now)) }
+{
+    let mut left = room;
+    for step in ix.steps.as_slice() {
+        left = excess_in_mono(notes, left, &step.mono)?;
+    }
+    Ok(left)
+}
+
+/// How many monomials an index expression may have.
+fn monomial_limit(spot: Spot) -> usize
+    ensures { result ≡ monomial_limit spot }
+{
+    match spot {
+        Spot::Bound => MOST_BOUND_MONOMIALS,
+        Spot::Head | Spot::Body | Spot::Factor | Spot::Target => MOST_MONOMIALS,
     }
 }
 
@@ -105,21 +205,20 @@ pub fn note_expression(
 ) -> Result<(), NoMemory>
     ensures { OnOk result (notes.new ≡ notes.old ++ expression_notes spot scope ix.now) }
 {
-    push(notes, expression_head(ix), Says::Expression)?;
+    excess_in_ix(notes, monomial_limit(spot), ix)?;
     note_ix(notes, spot, scope, ix)
 }
+
+// ---- values
 
 /// A name as a factor of a value, and what stands in the brackets behind it. Linear in it.
 fn note_read(notes: &mut Items<Note>, scope: Scope, atom: &RawAtom) -> Result<(), NoMemory>
     ensures { OnOk result (notes.new ≡ notes.old ++ read_notes scope atom.now) }
 {
-    let says = Says::Used {
-        brackets: atom.at.is_some(),
-        spot: Spot::Factor,
-        scope,
-    };
-    push(notes, atom.name, Says::Factor)?;
-    push(notes, atom.name, says)?;
+    let brackets = atom.at.is_some();
+    let spot = Spot::Factor;
+    push_mark(notes, atom.name, Says::Factor)?;
+    push(notes, atom.name, Says::Used { brackets, spot }, scope)?;
     match &atom.at {
         Some(at) => note_expression(notes, Spot::Body, scope, at.get()),
         None => Ok(()),
@@ -131,7 +230,7 @@ fn note_fact(notes: &mut Items<Note>, scope: Scope, fact: &RawFactor) -> Result<
     ensures { OnOk result (notes.new ≡ notes.old ++ fact_notes scope fact.now) }
 {
     match fact {
-        RawFactor::Number(number) => push(notes, *number, Says::Factor),
+        RawFactor::Number(number) => push_mark(notes, *number, Says::Factor),
         RawFactor::Paren(value) => note_value(notes, scope, value.get()),
         RawFactor::Name(atom) => note_read(notes, scope, atom),
     }
@@ -166,9 +265,8 @@ fn note_assign(notes: &mut Items<Note>, scope: Scope, assign: &RawAssign) -> Res
     let says = Says::Used {
         brackets: true,
         spot: Spot::Target,
-        scope,
     };
-    push(notes, assign.array, says)?;
+    push(notes, assign.array, says, scope)?;
     note_expression(notes, Spot::Body, scope, &assign.at)?;
     note_value(notes, scope, &assign.value)
 }
@@ -186,7 +284,7 @@ fn ix_head(ix: &RawIx) -> Token
 fn note_cond(notes: &mut Items<Note>, scope: Scope, cond: &RawCond) -> Result<(), NoMemory>
     ensures { OnOk result (notes.new ≡ notes.old ++ cond_notes scope cond.now) }
 {
-    push(notes, ix_head(&cond.left), Says::Condition)?;
+    push_mark(notes, ix_head(&cond.left), Says::Condition)?;
     note_expression(notes, Spot::Body, scope, &cond.left)?;
     note_expression(notes, Spot::Body, scope, &cond.right)
 }
@@ -217,7 +315,7 @@ fn conds_head(conds: &[RawCond]) -> Token
 fn note_guard(notes: &mut Items<Note>, scope: Scope, guard: &RawGuard) -> Result<(), NoMemory>
     ensures { OnOk result (notes.new ≡ notes.old ++ guard_notes scope guard.now) }
 {
-    push(notes, conds_head(guard.conds.as_slice()), Says::Guard)?;
+    push_mark(notes, conds_head(guard.conds.as_slice()), Says::Guard)?;
     for cond in guard.conds.as_slice() {
         note_cond(notes, scope, cond)?;
     }
@@ -240,13 +338,13 @@ fn note_item(notes: &mut Items<Note>, outer: Token, item: &RawItem) -> Result<()
     ensures { OnOk result (notes.new ≡ notes.old ++ item_notes outer item.now) }
 {
     match item {
-        RawItem::Part(part) => note_part(notes, Scope::within(outer), part),
+        RawItem::Part(part) => note_part(notes, Scope::Within(outer), part),
         RawItem::Inner(range, parts) => {
-            push(notes, range.var, Says::Variable(Some(outer)))?;
-            note_expression(notes, Spot::Body, Scope::within(outer), &range.low)?;
-            note_expression(notes, Spot::Body, Scope::within(outer), &range.high)?;
+            push(notes, range.var, Says::Variable, Scope::Within(outer))?;
+            note_expression(notes, Spot::Body, Scope::Within(outer), &range.low)?;
+            note_expression(notes, Spot::Body, Scope::Within(outer), &range.high)?;
             for part in parts.as_slice() {
-                note_part(notes, Scope::inside(outer, range.var), part)?;
+                note_part(notes, Scope::Inside(outer, range.var), part)?;
             }
             Ok(())
         }
@@ -257,10 +355,10 @@ fn note_item(notes: &mut Items<Note>, outer: Token, item: &RawItem) -> Result<()
 fn note_loop(notes: &mut Items<Note>, each: &RawLoop) -> Result<(), NoMemory>
     ensures { OnOk result (notes.new ≡ notes.old ++ loop_notes each.now) }
 {
-    push(notes, each.name, Says::Declared(Sort::Loop))?;
-    push(notes, each.range.var, Says::Variable(None))?;
-    note_expression(notes, Spot::Bound, Scope::nothing(), &each.range.low)?;
-    note_expression(notes, Spot::Bound, Scope::nothing(), &each.range.high)?;
+    push(notes, each.name, Says::Declared(Sort::Loop), Scope::Nothing)?;
+    push(notes, each.range.var, Says::Variable, Scope::Nothing)?;
+    note_expression(notes, Spot::Bound, Scope::Nothing, &each.range.low)?;
+    note_expression(notes, Spot::Bound, Scope::Nothing, &each.range.high)?;
     for item in each.items.as_slice() {
         note_item(notes, each.range.var, item)?;
     }
@@ -272,19 +370,24 @@ fn note_loop(notes: &mut Items<Note>, each: &RawLoop) -> Result<(), NoMemory>
 fn note_param(notes: &mut Items<Note>, name: Token) -> Result<(), NoMemory>
     ensures { OnOk result (notes.new ≡ notes.old ++ param_note name ∷ []) }
 {
-    push(notes, name, Says::Declared(Sort::Param))
+    push(notes, name, Says::Declared(Sort::Param), Scope::Nothing)
 }
 
 fn note_head(notes: &mut Items<Note>, ix: &RawIx) -> Result<(), NoMemory>
     ensures { OnOk result (notes.new ≡ notes.old ++ head_notes ix.now) }
 {
-    note_expression(notes, Spot::Head, Scope::nothing(), ix)
+    note_expression(notes, Spot::Head, Scope::Nothing, ix)
 }
 
 fn note_cells(notes: &mut Items<Note>, array: &RawSized) -> Result<(), NoMemory>
     ensures { OnOk result (notes.new ≡ notes.old ++ cells_notes array.now) }
 {
-    push(notes, array.name, Says::Declared(Sort::Data))?;
+    push(
+        notes,
+        array.name,
+        Says::Declared(Sort::Data),
+        Scope::Nothing,
+    )?;
     note_head(notes, &array.size)
 }
 
@@ -317,7 +420,12 @@ fn note_decl(notes: &mut Items<Note>, decl: &RawDecl) -> Result<(), NoMemory>
             high,
             ..
         } => {
-            push(notes, array.name, Says::Declared(Sort::Index))?;
+            push(
+                notes,
+                array.name,
+                Says::Declared(Sort::Index),
+                Scope::Nothing,
+            )?;
             note_head(notes, &array.size)?;
             note_head(notes, low)?;
             note_head(notes, high)

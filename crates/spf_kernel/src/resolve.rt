@@ -3,7 +3,8 @@
 ghost use Rattle.std.specs.Prelude.{◌≡◌, ◌++◌, IfOk, All, map, flat_map};
 ghost use Rattle.spf_base.specs.Word.{IsName};
 ghost use Rattle.spf_lex.specs.Tokens.{texts};
-ghost use Rattle.spf_kernel.specs.Rules.{text_of, tokens_that, is_naming};
+ghost use Rattle.spf_kernel.specs.Facts.{text_of};
+ghost use Rattle.spf_kernel.specs.Rules.{tokens_that, is_naming};
 ghost use Rattle.spf_kernel.specs.Notes.{kernel_notes, decl_notes, loop_notes};
 ghost use Rattle.spf_kernel.specs.Scopes.{nothing};
 ghost use Rattle.spf_kernel.specs.Resolved.{AreNames, decl_of, loop_of, tree_of};
@@ -67,7 +68,7 @@ pub(crate) fn resolve(
     ensures { IfOk result (λ tree. tree ≡ tree_of (texts tokens.now) names.now kernel.now) }
 {
     let decls = resolve_decls(alloc, tokens, names, kernel.decls.as_slice())?;
-    let steps = terms::resolve_ix(alloc, tokens, names, Scope::nothing(), &kernel.steps)?;
+    let steps = terms::resolve_ix(alloc, tokens, names, Scope::Nothing, &kernel.steps)?;
     let loops = resolve_loops(alloc, tokens, names, kernel.loops.as_slice())?;
     Ok(Tree {
         decls,

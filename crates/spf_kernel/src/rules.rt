@@ -4,6 +4,7 @@ ghost use Rattle.std.specs.Prelude.{◌≡◌, ◌+◌, ◌^◌, ◌<◌, ◌⊎
 ghost use Rattle.std.specs.Option.{option_map};
 ghost use Rattle.spf_lex.specs.Tokens.{texts};
 ghost use Rattle.spf_kernel.specs.declared.note.Note.{Note};
+ghost use Rattle.spf_kernel.specs.Facts.{Fact, fact_of, facts_of};
 ghost use Rattle.spf_kernel.specs.Before.{before_of};
 ghost use Rattle.spf_kernel.specs.Counts.{IsBelow};
 ghost use Rattle.spf_kernel.specs.Checked.{least_rule, Precedes, IsFirst, Checked};
@@ -49,7 +50,7 @@ fn first_number(tests: &[bool]) -> Option<u32>
 /// The least rule that the note breaks. Linear in its name on average.
 fn least_rule(tokens: &Tokens, before: &Before, note: &Note) -> Option<u32>
     requires { IsBelow (2 ^ 63) before.now.counts }
-    ensures { (notes : List Note) → before.now ≡ before_of (texts tokens.now) notes → result ≡ least_rule (texts tokens.now) notes note.now }
+    ensures { (facts : List Fact) → before.now ≡ before_of facts → result ≡ least_rule facts (fact_of (texts tokens.now) note.now) }
 {
     let counts = &before.counts;
     let broken = [
@@ -82,7 +83,7 @@ fn lesser(a: Breach, b: Breach) -> Breach
 /// The first breach, with one note more. Linear in its name on average.
 fn with_note(best: Option<Breach>, tokens: &Tokens, before: &Before, note: &Note) -> Option<Breach>
     requires { IsBelow (2 ^ 63) before.now.counts }
-    ensures { (notes : List Note) → before.now ≡ before_of (texts tokens.now) notes → IsFirst (texts tokens.now) notes best → IsFirst (texts tokens.now) (notes ++ note.now ∷ []) result }
+    ensures { (notes : List Note) → before.now ≡ before_of (facts_of (texts tokens.now) notes) → IsFirst (texts tokens.now) notes best → IsFirst (texts tokens.now) (notes ++ note.now ∷ []) result }
 {
     match (best, least_rule(tokens, before, note)) {
         (_, None) => best,

@@ -3,7 +3,7 @@
 ghost use Rattle.std.specs.Prelude.{◌≡◌, IfOk, map, flat_map};
 ghost use Rattle.spf_base.specs.Word.{IsName};
 ghost use Rattle.spf_lex.specs.Tokens.{texts};
-ghost use Rattle.spf_kernel.specs.Rules.{text_of};
+ghost use Rattle.spf_kernel.specs.Facts.{text_of};
 ghost use Rattle.spf_kernel.specs.Notes.{param_note, cells_notes, decl_notes};
 ghost use Rattle.spf_kernel.specs.Resolved.{AreNames, data_decl_of, table_decl_of, decl_of};
 
@@ -47,7 +47,7 @@ fn resolve_array(
 {
     Ok(DataDecl {
         name: resolve_name(alloc, tokens, array.name)?,
-        size: resolve_ix(alloc, tokens, names, Scope::nothing(), &array.size)?,
+        size: resolve_ix(alloc, tokens, names, Scope::Nothing, &array.size)?,
     })
 }
 
@@ -79,7 +79,7 @@ fn resolve_table(
     requires { IsName (text_of (texts tokens.now) array.now.name) }
     ensures { IfOk result (λ found. found ≡ table_decl_of (texts tokens.now) names.now array.now low.now high.now trend) }
 {
-    let nothing = Scope::nothing();
+    let nothing = Scope::Nothing;
     Ok(Decl::Index {
         name: resolve_name(alloc, tokens, array.name)?,
         size: resolve_ix(alloc, tokens, names, nothing, &array.size)?,

@@ -27,7 +27,7 @@ fn resolve_item(
     requires { AreNames (texts tokens.now) (item_notes outer item.now) }
     ensures { IfOk result (λ found. found ≡ item_of (texts tokens.now) names.now outer item.now) }
 {
-    let within = Scope::within(outer);
+    let within = Scope::Within(outer);
     match item {
         RawItem::Part(RawPart::Assign(assign)) => {
             let assign = resolve_assign(alloc, tokens, names, within, assign)?;
@@ -38,7 +38,7 @@ fn resolve_item(
             Ok(Item::Branch(guard))
         }
         RawItem::Inner(range, parts) => {
-            let inside = Scope::inside(outer, range.var);
+            let inside = Scope::Inside(outer, range.var);
             Ok(Item::Inner {
                 var: resolve_name(alloc, tokens, range.var)?,
                 low: resolve_ix(alloc, tokens, names, within, &range.low)?,
@@ -76,7 +76,7 @@ pub(super) fn resolve_loop(
     requires { AreNames (texts tokens.now) (loop_notes raw.now) }
     ensures { IfOk result (λ found. found ≡ loop_of (texts tokens.now) names.now raw.now) }
 {
-    let nothing = Scope::nothing();
+    let nothing = Scope::Nothing;
     let range = &raw.range;
     Ok(Loop {
         name: resolve_name(alloc, tokens, raw.name)?,

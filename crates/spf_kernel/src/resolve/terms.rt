@@ -3,6 +3,7 @@
 ghost use Rattle.std.specs.Prelude.{◌≡◌, ◌++◌, OnOk, IfOk};
 ghost use Rattle.spf_base.specs.Wrap.{wrap};
 ghost use Rattle.spf_lex.specs.Tokens.{texts};
+ghost use Rattle.spf_kernel.specs.Facts.{text_of, variables_in};
 ghost use Rattle.spf_kernel.specs.Resolved.{signed, alone_of, constant_of, variable_of, bare_atom, atom_of, monos_of, term_of};
 
 use crate::names::{Names, text_of};
@@ -50,7 +51,7 @@ fn constant(ix: &RawIx) -> i64
 
 /// A name without brackets.
 fn bare_atom(tokens: &Tokens, names: &Names, scope: Scope, name: Token) -> Atom
-    ensures { result ≡ bare_atom (texts tokens.now) names.now (variable_of (texts tokens.now) scope name) name }
+    ensures { result ≡ bare_atom (texts tokens.now) names.now (variable_of (variables_in (texts tokens.now) scope) (text_of (texts tokens.now) name)) name }
 {
     match variable(tokens, scope, name) {
         Some(variable) => Atom::Var(variable),

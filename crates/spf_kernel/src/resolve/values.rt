@@ -2,6 +2,7 @@
 
 ghost use Rattle.std.specs.Prelude.{◌≡◌, IfOk, map};
 ghost use Rattle.spf_lex.specs.Tokens.{texts};
+ghost use Rattle.spf_kernel.specs.Facts.{text_of, variables_in};
 ghost use Rattle.spf_kernel.specs.Resolved.{variable_of, bare_factor, name_factor, factor_of, product, value_of};
 
 use crate::names::{Names, text_of};
@@ -17,7 +18,7 @@ use std::alloc::Global;
 
 /// A name without brackets.
 fn bare_factor(tokens: &Tokens, names: &Names, scope: Scope, name: Token) -> Factor
-    ensures { result ≡ bare_factor (texts tokens.now) names.now (variable_of (texts tokens.now) scope name) name }
+    ensures { result ≡ bare_factor (texts tokens.now) names.now (variable_of (variables_in (texts tokens.now) scope) (text_of (texts tokens.now) name)) name }
 {
     match variable(tokens, scope, name) {
         Some(variable) => Factor::Var(variable),

@@ -1,9 +1,9 @@
 use Rattle.std.proofs.Common.{arith, sym}
 use Rattle.spf_lex.specs.Production.{begins}
 use Rattle.spf_lex.proofs.Repeating.{from_parts, goes_on}
+use Rattle.spf_kernel.proofs.ix.+ix.Goals as goal
 use Rattle.spf_kernel.specs.Productions.{atom, next_step}
 use Rattle.spf_kernel.proofs.Depths.{atom_deep}
-use Rattle.spf_kernel.proofs.ix.+ix.Goals as goal
 
 pub atom-returns-then-depth-gt0 : goal.atom-returns-then-depth-gt0
 atom-returns-then-depth-gt0 t c = rw (atom_deep c.args.depth c.args.tokens.now (omega (arith, c.if-depth-gt0.true))) c.subscripted.ensures

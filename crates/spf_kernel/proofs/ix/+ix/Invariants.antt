@@ -3,8 +3,8 @@ use Rattle.spf_lex.specs.Derivation.{made}
 use Rattle.spf_lex.specs.Production.{begins}
 use Rattle.spf_lex.specs.Reader.{repeat}
 use Rattle.spf_lex.proofs.Repeating.{Rest}
-use Rattle.spf_kernel.specs.Productions.{atom, next_step}
 use Rattle.spf_kernel.proofs.ix.+ix.Given as goal
+use Rattle.spf_kernel.specs.Productions.{atom, next_step}
 
 abbrev pub decreases-atom : goal.decreases-atom
 decreases-atom l = 9 * l.depth

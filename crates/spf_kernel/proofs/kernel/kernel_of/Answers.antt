@@ -1,5 +1,5 @@
-use Rattle.spf_kernel.proofs.Parsing.{are_names, is_parsed}
 use Rattle.spf_kernel.proofs.kernel.kernel_of.Goals as goal
+use Rattle.spf_kernel.proofs.Parsing.{are_names, is_parsed}
 
 pub resolve-requires : goal.resolve-requires
 resolve-requires c = let s = c.requires.stands in are_names c.args.tokens.now s.0 s.1 c.args.raw.now s.2 c.requires.lexed

@@ -1,8 +1,8 @@
 use Rattle.std.proofs.Common.{Ok, Err}
 use Rattle.spf_lex.specs.declared.parts.PartFault.TheVariants.{Syntax}
+use Rattle.spf_kernel.proofs.kernel.parse.Goals as goal
 use Rattle.spf_kernel.proofs.OneKernel.{finds_kernel}
 use Rattle.spf_kernel.proofs.Parsing.{parses, rule_fault}
-use Rattle.spf_kernel.proofs.kernel.parse.Goals as goal
 
 pub judge-requires-clause-stands : goal.judge-requires-clause-stands
 judge-requires-clause-stands c = (c.args.from, c.in-Ok.found.1, finds_kernel c.args.tokens.now c.args.from (Ok c.in-Ok.found) c.in-Ok.ensures)

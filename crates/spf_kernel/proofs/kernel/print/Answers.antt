@@ -2,10 +2,10 @@ use Rattle.std.proofs.Common.{List, ℕ, ◌≡◌, sym, ap, ◌∙◌, subst}
 use Rattle.std.proofs.lemmas.Result.{IfOk-weaker}
 use Rattle.spf_lex.specs.Joined.{joined}
 use Rattle.spf_kernel.specs.declared.tree.Tree.{Tree}
+use Rattle.spf_kernel.proofs.kernel.print.Goals as goal
 use Rattle.spf_kernel.specs.Parsed.{IsTextOf}
 use Rattle.spf_kernel.specs.Printed.{words_of}
 use Rattle.spf_kernel.proofs.PrintedParses.{printed_parses}
-use Rattle.spf_kernel.proofs.kernel.print.Goals as goal
 
 pub returns-clause-parsed : goal.returns-clause-parsed
 returns-clause-parsed c =

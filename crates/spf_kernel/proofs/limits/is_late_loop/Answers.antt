@@ -1,7 +1,7 @@
 use Rattle.std.proofs.Common.{arith}
 use Rattle.std.proofs.lemmas.Grind.{common_steps}
-use Rattle.spf_kernel.proofs.Counting.{is_counted}
 use Rattle.spf_kernel.proofs.limits.is_late_loop.Goals as goal
+use Rattle.spf_kernel.proofs.Counting.{is_counted}
 
 pub returns-in-Declared-Loop : goal.returns-in-Declared-Loop
 returns-in-Declared-Loop c = λ texts notes e.

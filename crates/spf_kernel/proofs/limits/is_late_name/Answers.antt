@@ -1,7 +1,7 @@
 use Rattle.std.proofs.Common.{arith}
 use Rattle.std.proofs.lemmas.Grind.{common_steps}
-use Rattle.spf_kernel.proofs.Counting.{is_counted}
 use Rattle.spf_kernel.proofs.limits.is_late_name.Goals as goal
+use Rattle.spf_kernel.proofs.Counting.{is_counted}
 
 pub returns-in-Declared-Param : goal.returns-in-Declared-Param
 returns-in-Declared-Param c = λ texts notes e.

@@ -1,7 +1,9 @@
+use Rattle.spf_lex.specs.Tokens.{texts}
 use Rattle.spf_kernel.proofs.name_rules.fits.Goals as goal
+use Rattle.spf_kernel.specs.Facts.{variables_in}
 
 pub returns-then-brackets : goal.returns-then-brackets
-returns-then-brackets c = λ notes e. rw c.if-brackets.true (c.fits_with_brackets.ensures notes c.args.scope e)
+returns-then-brackets c = λ facts e. rw c.if-brackets.true (c.fits_with_brackets.ensures facts (variables_in (texts c.args.tokens.now) c.args.scope) e)
 
 pub returns-else-brackets : goal.returns-else-brackets
-returns-else-brackets c = λ notes e. rw c.if-brackets.false (c.fits_bare.ensures notes c.args.spot e)
+returns-else-brackets c = λ facts e. rw c.if-brackets.false (c.fits_bare.ensures facts c.args.spot e)

@@ -1,18 +1,22 @@
-use Rattle.std.proofs.Common.{◌≡◌, refl}
-use Rattle.spf_lex.specs.Tokens.{texts}
-use Rattle.spf_kernel.specs.Rules.{is_table, is_data, declares}
-use Rattle.spf_kernel.proofs.Declared.{is_known}
+use Rattle.std.proofs.Common.{refl, ◌∙◌}
+use Rattle.std.proofs.Common.{◌≡◌}
+use Rattle.spf_kernel.specs.Rules.{is_table, declares}
+use Rattle.spf_kernel.proofs.Declared.{or_false, known_from}
 use Rattle.spf_kernel.proofs.name_rules.fits_with_brackets.Goals as goal
 
+pub returns-in-Body : goal.returns-in-Body
+returns-in-Body c = λ facts variables e. rw c.in-Body.is (c.contains.ensures ∙ (known_from facts c.args.name.now c.args.before.now e).tables ∙ or_false (declares is_table facts c.args.name.now))
+
 pub returns-then-contains : goal.returns-then-contains
-returns-then-contains c = λ notes scope e.
-    let known = is_known (texts c.args.tokens.now) notes c.args.name c.args.before.now e in
-    let table : c.contains-in-Factor.result ≡ declares (texts c.args.tokens.now) is_table notes c.args.name = cc (c.contains-in-Factor.ensures, c.text_of-text.ensures, known.tables) in
+returns-then-contains c = λ facts variables e.
+    let table : c.contains-in-Factor.result ≡ declares is_table facts c.args.name.now = c.contains-in-Factor.ensures ∙ (known_from facts c.args.name.now c.args.before.now e).tables in
     rw (c.in-Factor.is, ← table, c.if-contains.true) refl
 
 pub returns-else-contains : goal.returns-else-contains
-returns-else-contains c = λ notes scope e.
-    let known = is_known (texts c.args.tokens.now) notes c.args.name c.args.before.now e in
-    let table : c.contains-in-Factor.result ≡ declares (texts c.args.tokens.now) is_table notes c.args.name = cc (c.contains-in-Factor.ensures, c.text_of-text.ensures, known.tables) in
-    let cell : c.contains-else-contains.result ≡ declares (texts c.args.tokens.now) is_data notes c.args.name = cc (c.contains-else-contains.ensures, c.text_of-text.ensures, known.data_arrays) in
-    rw (c.in-Factor.is, ← table, c.if-contains.false) cell
+returns-else-contains c = λ facts variables e.
+    let known = known_from facts c.args.name.now c.args.before.now e in
+    let table : c.contains-in-Factor.result ≡ declares is_table facts c.args.name.now = c.contains-in-Factor.ensures ∙ known.tables in
+    rw (c.in-Factor.is, ← table, c.if-contains.false) (c.contains-else-contains.ensures ∙ known.data_arrays)
+
+pub returns-in-Target : goal.returns-in-Target
+returns-in-Target c = λ facts variables e. rw c.in-Target.is (c.contains-in-Target.ensures ∙ (known_from facts c.args.name.now c.args.before.now e).data_arrays)

@@ -1,7 +1,7 @@
 use Rattle.std.proofs.Common.{arith}
 use Rattle.std.proofs.lemmas.Grind.{common_steps}
-use Rattle.spf_kernel.proofs.NoteEquations.{value_notes_are, paren_notes_are}
 use Rattle.spf_kernel.proofs.notes.+value.Goals as goal
+use Rattle.spf_kernel.proofs.NoteEquations.{value_notes_are, paren_notes_are}
 
 pub note_fact-returns-in-Paren : goal.note_fact-returns-in-Paren
 note_fact-returns-in-Paren t c =

@@ -1,7 +1,7 @@
 use Rattle.std.proofs.Common.{◌≡◌, ◌++◌, take, flat_map}
+use Rattle.spf_kernel.proofs.notes.+value.Given as goal
 use Rattle.spf_kernel.specs.Notes.{fact_notes}
 use Rattle.spf_kernel.proofs.NoteEquations.{summand_notes}
-use Rattle.spf_kernel.proofs.notes.+value.Given as goal
 
 abbrev pub invariant-note_summand-loop-fact : goal.invariant-note_summand-loop-fact
 invariant-note_summand-loop-fact l = l.notes ≡ l.fn.notes ++ flat_map (fact_notes l.scope) (take l.fact-index l.fact-items)

@@ -1,7 +1,7 @@
 use Rattle.std.proofs.Common.{arith}
 use Rattle.std.proofs.lemmas.Grind.{common_steps}
-use Rattle.spf_kernel.proofs.PrintEquations.{term_words_are, term_begins}
 use Rattle.spf_kernel.proofs.print_term.+print_term.Goals as goal
+use Rattle.spf_kernel.proofs.PrintEquations.{term_words_are, term_begins}
 
 pub push_term-returns-in-empty : goal.push_term-returns-in-empty
 push_term-returns-in-empty t c = let e = term_words_are c.args.names.now c.args.vars.now c.args.term.now in grind (arith, common_steps)

@@ -1,7 +1,7 @@
 use Rattle.std.proofs.Common.{◌∷◌, [], arith, codes}
 use Rattle.std.proofs.lemmas.Grind.{common_steps}
-use Rattle.spf_kernel.proofs.PrintEquations.{separated_more}
 use Rattle.spf_kernel.proofs.print_tree.push_names.Goals as goal
+use Rattle.spf_kernel.proofs.PrintEquations.{separated_more}
 
 pub loop-n-preserved : goal.loop-n-preserved
 loop-n-preserved c =

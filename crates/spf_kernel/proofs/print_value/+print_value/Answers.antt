@@ -1,9 +1,9 @@
 use Rattle.std.proofs.Common.{arith, codes}
 use Rattle.std.proofs.lemmas.Grind.{common_steps}
 use Rattle.spf_kernel.specs.declared.tree.Prod.{Prod}
+use Rattle.spf_kernel.proofs.print_value.+print_value.Goals as goal
 use Rattle.spf_kernel.specs.Printed.{fact_words, prod_words}
 use Rattle.spf_kernel.proofs.PrintEquations.{separated_more, signed_more, value_words_are}
-use Rattle.spf_kernel.proofs.print_value.+print_value.Goals as goal
 
 pub push_prod-loop-n-preserved : goal.push_prod-loop-n-preserved
 push_prod-loop-n-preserved t c =

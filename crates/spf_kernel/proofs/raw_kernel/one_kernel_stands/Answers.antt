@@ -1,5 +1,5 @@
-use Rattle.spf_kernel.proofs.OneKernel.{one_kernel, no_syntax_fault}
 use Rattle.spf_kernel.proofs.raw_kernel.one_kernel_stands.Goals as goal
+use Rattle.spf_kernel.proofs.OneKernel.{one_kernel, no_syntax_fault}
 
 pub returns-clause-one : goal.returns-clause-one
 returns-clause-one c = one_kernel

@@ -1,9 +1,9 @@
 use Rattle.std.proofs.Common.{flat_map, ◌++◌, subst, sym}
 use Rattle.spf_lex.specs.Tokens.{texts}
+use Rattle.spf_kernel.proofs.resolve.resolve.Goals as goal
 use Rattle.spf_kernel.specs.Notes.{kernel_notes, decl_notes, head_notes, loop_notes}
 use Rattle.spf_kernel.specs.Resolved.{AreNames}
 use Rattle.spf_kernel.proofs.Naming.{names_left, names_right}
-use Rattle.spf_kernel.proofs.resolve.resolve.Goals as goal
 
 pub resolve_decls-requires : goal.resolve_decls-requires
 unfolding kernel_notes

@@ -1,7 +1,7 @@
 use Rattle.spf_lex.specs.Tokens.{texts}
+use Rattle.spf_kernel.proofs.resolve.resolve_decls.Goals as goal
 use Rattle.spf_kernel.specs.Notes.{decl_notes}
 use Rattle.spf_kernel.proofs.Naming.{names_at}
-use Rattle.spf_kernel.proofs.resolve.resolve_decls.Goals as goal
 
 pub resolve_decl-requires : goal.resolve_decl-requires
 resolve_decl-requires c = names_at (texts c.args.tokens.now) decl_notes c.args.decls.now c.loop-decl.decl-index c.decl-item.result c.loop-decl-test.true c.decl-item.is c.requires

@@ -1,9 +1,9 @@
 use Rattle.spf_lex.specs.Tokens.{texts}
+use Rattle.spf_kernel.proofs.resolve.resolve_loops.Goals as goal
 use Rattle.spf_kernel.specs.Notes.{loop_notes}
 use Rattle.spf_kernel.specs.Resolved.{loop_of}
 use Rattle.spf_kernel.proofs.Mapped.{mapped_more}
 use Rattle.spf_kernel.proofs.Naming.{names_at}
-use Rattle.spf_kernel.proofs.resolve.resolve_loops.Goals as goal
 
 pub resolve_loop-requires : goal.resolve_loop-requires
 resolve_loop-requires c = names_at (texts c.args.tokens.now) loop_notes c.args.loops.now c.loop-item.item-index c.item-item.result c.loop-item-test.true c.item-item.is c.requires

@@ -4,9 +4,9 @@ use Rattle.spf_lex.specs.Production.{begins}
 use Rattle.spf_lex.specs.Reader.{further, sees}
 use Rattle.spf_lex.specs.declared.kind.Kind.TheVariants.{Star}
 use Rattle.spf_lex.proofs.Repeating.{from_parts, goes_on}
+use Rattle.spf_kernel.proofs.value.+value.Goals as goal
 use Rattle.spf_kernel.specs.Productions.{fact, next_summand}
 use Rattle.spf_kernel.proofs.Depths.{fact_nested, fact_numbered}
-use Rattle.spf_kernel.proofs.value.+value.Goals as goal
 
 pub fact-returns-then-begins_number : goal.fact-returns-then-begins_number
 fact-returns-then-begins_number t c = rw (fact_numbered c.args.depth c.args.tokens.now (sym c.if-begins_number.ensures)) c.numbered.ensures

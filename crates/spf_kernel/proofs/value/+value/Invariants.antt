@@ -5,8 +5,8 @@ use Rattle.spf_lex.specs.Production.{begins}
 use Rattle.spf_lex.specs.Reader.{further, repeat, sees}
 use Rattle.spf_lex.specs.declared.kind.Kind.TheVariants.{Star}
 use Rattle.spf_lex.proofs.Repeating.{Rest}
-use Rattle.spf_kernel.specs.Productions.{fact, next_summand}
 use Rattle.spf_kernel.proofs.value.+value.Given as goal
+use Rattle.spf_kernel.specs.Productions.{fact, next_summand}
 
 abbrev pub decreases-fact : goal.decreases-fact
 decreases-fact l = 10 * l.depth

@@ -2,43 +2,44 @@ use Rattle.std.proofs.Common.{arith}
 use Rattle.std.proofs.lemmas.Grind.{common_steps}
 use Rattle.std.proofs.lemmas.Result.{on_ok_weaker}
 use Rattle.spf_lex.specs.Tokens.{texts}
-use Rattle.spf_kernel.proofs.Adding.{before_after, counts_before}
 use Rattle.spf_kernel.proofs.before.Before.add.Goals as goal
+use Rattle.spf_kernel.specs.Facts.{fact_of}
+use Rattle.spf_kernel.proofs.Adding.{before_after, counts_before}
 
 pub returns-in-Declared-Param : goal.returns-in-Declared-Param
 returns-in-Declared-Param c =
     on_ok_weaker c.insert.result
-    (λ inserted notes e.
-    before_after (texts c.args.tokens.now) notes c.args.note.now c.args.self.now _ e (c.with-self.ensures notes (counts_before _ _ _ e))
+    (λ inserted facts e.
+    before_after facts (fact_of (texts c.args.tokens.now) c.args.note.now) c.args.self.now _ e (c.with-self.ensures (texts c.args.tokens.now) facts (counts_before _ _ e))
     (grind (arith, common_steps)))
     c.insert.ensures
 
 pub returns-in-Declared-Index : goal.returns-in-Declared-Index
 returns-in-Declared-Index c =
     on_ok_weaker c.insert-in-Declared-Index.result
-    (λ inserted notes e.
-    before_after (texts c.args.tokens.now) notes c.args.note.now c.args.self.now _ e (c.with-self.ensures notes (counts_before _ _ _ e))
+    (λ inserted facts e.
+    before_after facts (fact_of (texts c.args.tokens.now) c.args.note.now) c.args.self.now _ e (c.with-self.ensures (texts c.args.tokens.now) facts (counts_before _ _ e))
     (grind (arith, common_steps)))
     c.insert-in-Declared-Index.ensures
 
 pub returns-in-Declared-Data : goal.returns-in-Declared-Data
 returns-in-Declared-Data c =
     on_ok_weaker c.insert-in-Declared-Data.result
-    (λ inserted notes e.
-    before_after (texts c.args.tokens.now) notes c.args.note.now c.args.self.now _ e (c.with-self.ensures notes (counts_before _ _ _ e))
+    (λ inserted facts e.
+    before_after facts (fact_of (texts c.args.tokens.now) c.args.note.now) c.args.self.now _ e (c.with-self.ensures (texts c.args.tokens.now) facts (counts_before _ _ e))
     (grind (arith, common_steps)))
     c.insert-in-Declared-Data.ensures
 
 pub returns-in-Declared-Loop : goal.returns-in-Declared-Loop
 returns-in-Declared-Loop c =
     on_ok_weaker c.insert-in-Declared-Loop.result
-    (λ inserted notes e.
-    before_after (texts c.args.tokens.now) notes c.args.note.now c.args.self.now _ e (c.with-self.ensures notes (counts_before _ _ _ e))
+    (λ inserted facts e.
+    before_after facts (fact_of (texts c.args.tokens.now) c.args.note.now) c.args.self.now _ e (c.with-self.ensures (texts c.args.tokens.now) facts (counts_before _ _ e))
     (grind (arith, common_steps)))
     c.insert-in-Declared-Loop.ensures
 
 pub returns-in_default : goal.returns-in_default
 returns-in_default c =
-    λ notes e.
-    before_after (texts c.args.tokens.now) notes c.args.note.now c.args.self.now _ e (c.with-self.ensures notes (counts_before _ _ _ e))
+    λ facts e.
+    before_after facts (fact_of (texts c.args.tokens.now) c.args.note.now) c.args.self.now _ e (c.with-self.ensures (texts c.args.tokens.now) facts (counts_before _ _ e))
     (grind (arith, common_steps))

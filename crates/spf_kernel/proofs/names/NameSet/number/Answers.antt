@@ -1,7 +1,7 @@
 use Rattle.std.proofs.Common.{sym}
 use Rattle.std.specs.Str.{bytes_eq}
-use Rattle.spf_kernel.proofs.NameLists.{position_or_len-map, unwrap_or-position}
 use Rattle.spf_kernel.proofs.names.NameSet.number.Goals as goal
+use Rattle.spf_kernel.proofs.NameLists.{position_or_len-map, unwrap_or-position}
 
 pub returns-clause-number : goal.returns-clause-number
 returns-clause-number c =

@@ -1,8 +1,8 @@
 use Rattle.std.proofs.Common.{map, flat_map, arith, subst, sym}
 use Rattle.spf_lex.specs.Tokens.{texts}
+use Rattle.spf_kernel.proofs.resolve.declarations.resolve_decl.Goals as goal
 use Rattle.spf_kernel.specs.Notes.{param_note, cells_notes, decl_notes}
 use Rattle.spf_kernel.specs.Resolved.{AreNames}
-use Rattle.spf_kernel.proofs.resolve.declarations.resolve_decl.Goals as goal
 
 pub resolve_params-requires : goal.resolve_params-requires
 resolve_params-requires c =

@@ -1,8 +1,8 @@
 use Rattle.std.proofs.Common.{arith}
 use Rattle.std.proofs.lemmas.Grind.{common_steps}
 use Rattle.spf_lex.specs.Tokens.{texts}
-use Rattle.spf_kernel.proofs.TermEquations.{term_is, atom_is_at}
 use Rattle.spf_kernel.proofs.resolve.terms.+resolve_ix.Goals as goal
+use Rattle.spf_kernel.proofs.TermEquations.{term_is, atom_is_at}
 
 pub resolve_atom-returns-in_ok-resolve_ix-in-Some : goal.resolve_atom-returns-in_ok-resolve_ix-in-Some
 resolve_atom-returns-in_ok-resolve_ix-in-Some t c =

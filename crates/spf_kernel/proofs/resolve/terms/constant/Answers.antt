@@ -1,9 +1,9 @@
 use Rattle.std.proofs.Common.{arith, fold, is_some, pos, take, ◌+ℤ◌}
 use Rattle.std.proofs.lemmas.Grind.{common_steps}
 use Rattle.spf_kernel.specs.declared.raw.RawStep.{RawStep}
+use Rattle.spf_kernel.proofs.resolve.terms.constant.Goals as goal
 use Rattle.spf_kernel.specs.Resolved.{alone_of}
 use Rattle.spf_kernel.proofs.Signs.{wrap_sum, wrap_zero}
-use Rattle.spf_kernel.proofs.resolve.terms.constant.Goals as goal
 
 pub loop-step-init : goal.loop-step-init
 loop-step-init c = wrap_zero

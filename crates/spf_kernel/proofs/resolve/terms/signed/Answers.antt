@@ -1,7 +1,7 @@
 use Rattle.std.proofs.Common.{arith}
 use Rattle.std.proofs.lemmas.Grind.{common_steps}
-use Rattle.spf_kernel.proofs.Signs.{wrap_pos, wrap_neg}
 use Rattle.spf_kernel.proofs.resolve.terms.signed.Goals as goal
+use Rattle.spf_kernel.proofs.Signs.{wrap_pos, wrap_neg}
 
 pub returns-then-minus : goal.returns-then-minus
 returns-then-minus c =

@@ -1,8 +1,8 @@
 use Rattle.std.proofs.Common.{arith}
 use Rattle.std.proofs.lemmas.Grind.{common_steps}
 use Rattle.spf_lex.specs.Tokens.{texts}
-use Rattle.spf_kernel.proofs.ValueEquations.{value_is, paren_is}
 use Rattle.spf_kernel.proofs.resolve.values.+resolve_value.Goals as goal
+use Rattle.spf_kernel.proofs.ValueEquations.{value_is, paren_is}
 
 pub resolve_factor-returns-in_ok-value-in-Paren : goal.resolve_factor-returns-in_ok-value-in-Paren
 resolve_factor-returns-in_ok-value-in-Paren t c =

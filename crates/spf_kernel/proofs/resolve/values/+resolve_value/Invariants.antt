@@ -1,8 +1,8 @@
 use Rattle.std.proofs.Common.{◌≡◌, take, map}
 use Rattle.spf_lex.specs.Tokens.{texts}
+use Rattle.spf_kernel.proofs.resolve.values.+resolve_value.Given as goal
 use Rattle.spf_kernel.specs.Resolved.{factor_of}
 use Rattle.spf_kernel.proofs.ValueEquations.{summand_of}
-use Rattle.spf_kernel.proofs.resolve.values.+resolve_value.Given as goal
 
 abbrev pub invariant-resolve_summand-loop-factor : goal.invariant-resolve_summand-loop-factor
 invariant-resolve_summand-loop-factor l = l.facts ≡ map (factor_of (texts l.tokens) l.names l.scope) (take l.factor-index l.factor-items)
