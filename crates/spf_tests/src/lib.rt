@@ -22,6 +22,8 @@ mod script;
 #[cfg(test)]
 mod space;
 #[cfg(test)]
+mod store;
+#[cfg(test)]
 mod term;
 #[cfg(test)]
 mod tiles;

@@ -1,0 +1,7 @@
+mod Adjacent
+mod OnTheWay
+mod Pieces
+mod SiteCounts
+mod Branches
+mod Turns
+mod Inners

@@ -1,0 +1,23 @@
+use Rattle.std.proofs.Common.{◌<◌, ◌^◌, arith, rules}
+use Rattle.std.proofs.lemmas.Grind.{common_steps}
+use Rattle.spf_kernel.specs.declared.tree.Value.{the_lemmas}
+use Rattle.spf_store.specs.BodySites.{prod_sites}
+use Rattle.spf_store.proofs.SiteCounts.{sum_within, value_sites_are}
+use Rattle.spf_store.proofs.body_sites.+value_sites.Goals as goal
+
+pub value_sites-prod_sites-count-requires : goal.value_sites-prod_sites-count-requires
+value_sites-prod_sites-count-requires t c =
+    let e = value_sites_are c.args.value.now in
+    let one = sum_within prod_sites c.as_slice-prod-items.result.now c.loop-prod.prod-index c.prod-item.result c.loop-prod-test.true c.prod-item.is in
+    let few : prod_sites c.prod-item.result < 2 ^ 32 = grind arith in
+    search (rules, the_lemmas)
+
+pub value_sites-overflow_add-count : goal.value_sites-overflow_add-count
+value_sites-overflow_add-count t c =
+    let e = value_sites_are c.args.value.now in
+    grind (arith, common_steps)
+
+pub value_sites-returns : goal.value_sites-returns
+value_sites-returns t c =
+    let e = value_sites_are c.args.value.now in
+    grind (arith, common_steps)

@@ -1,0 +1,11 @@
+pub mod Accepted
+pub mod Accesses
+pub mod BodySites
+pub mod Bounded
+pub mod Effect
+pub mod Event
+pub mod FirstFault
+pub mod Shaped
+pub mod Source
+pub mod Stored
+pub mod Trace
