@@ -51,7 +51,7 @@ impl Part<Kind> for RawBundle {
         begins_bundle(tokens)
     }
 
-    fn read(alloc: Global, tokens: &mut Cursor<Kind>) -> Result<RawBundle, ReadFault> {
+    fn parse(alloc: Global, tokens: &mut Cursor<Kind>) -> Result<RawBundle, ReadFault> {
         bundle(alloc, tokens)
     }
 }

@@ -87,7 +87,7 @@ impl Part<Kind> for RawEntry {
         begins_entry(tokens)
     }
 
-    fn read(_alloc: Global, tokens: &mut Cursor<Kind>) -> Result<RawEntry, ReadFault> {
+    fn parse(_alloc: Global, tokens: &mut Cursor<Kind>) -> Result<RawEntry, ReadFault> {
         Ok(entry(tokens)?)
     }
 }

@@ -18,7 +18,6 @@ pub fn read_kernel(alloc: Global, text: &[u8]) -> Result<Kernel, InputFault>
     ensures { IsAnswer text.now result }
 {
     let tokens = tokens(alloc, text)?;
-    let _count = tokens.len();
     let raw = whole::<Kind, RawBundle>(alloc, &tokens)?;
     Ok(judge(alloc, &tokens, &raw.kernel)?)
 }

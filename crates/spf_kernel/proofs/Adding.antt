@@ -1,16 +1,10 @@
 -- What the rules ask of the facts, with one fact more.
-use Rattle.std.proofs.Common.{◌≡◌, ℕ, Bool, true, false, cond, List, [], ◌∷◌, ◌++◌, map, filter, refl, ap, sym, ◌∙◌, append-nil, subst, length, ◌<◌}
-use Rattle.std.proofs.lemmas.List.{map_push, map-append}
+use Rattle.spf_kernel.proofs.Common.{◌≡◌, ℕ, Bool, true, false, List, [], ◌∷◌, ◌++◌, map, filter, refl, ap, sym, ◌∙◌, append-nil, subst, length, ◌<◌, map_push, map-append, bytes_eq, insert_key, Before, Says, IsBelow, Fact, is_param, is_table, is_data, is_loop, names_that}
+use Rattle.std.proofs.Common.{cond}
 use Rattle.std.proofs.lemmas.List.Elements.{filter-append}
 use Rattle.std.proofs.lemmas.List.Sums.{fold_push}
-use Rattle.std.specs.Str.{bytes_eq}
-use Rattle.indexmap.specs.IndexSet.{insert_key}
-use Rattle.spf_kernel.specs.declared.before.Before.{Before}
-use Rattle.spf_kernel.specs.declared.note.Says.{Says}
 use Rattle.spf_kernel.specs.Before.{once, before_of}
-use Rattle.spf_kernel.specs.Counts.{counts_of, IsBelow}
-use Rattle.spf_kernel.specs.Facts.{Fact}
-use Rattle.spf_kernel.specs.Rules.{is_param, is_table, is_data, is_loop, names_that}
+use Rattle.spf_kernel.specs.Counts.{counts_of}
 use Rattle.spf_kernel.proofs.Counting.{counts_below}
 
 pub once_more : (names : List (List ℕ)) (name : List ℕ) → once (names ++ name ∷ []) ≡ insert_key bytes_eq (once names) name

@@ -1,7 +1,6 @@
 -- A look at the next token tells how to read on in a kernel, and no kernel begins with another one.
-use Rattle.std.proofs.Common.{◌≡◌, true, [], refl}
+use Rattle.spf_kernel.proofs.Common.{◌≡◌, true, [], refl, same_kind}
 use denote.Enum.Bare.{same_true, true_same}
-use Rattle.spf_lex.specs.BundleWords.{same_kind}
 use Rattle.spf_lex.specs.Grammar.{IsExact}
 use Rattle.spf_lex.specs.LookAhead.{is_clear, nullable, first, extension}
 use Rattle.spf_lex.specs.contracts.kind.Kind.{the_type}

@@ -1,14 +1,12 @@
 -- The counts of the facts, with one fact more.
-use Rattle.std.proofs.Common.{◌≡◌, ℕ, ◌+◌, ◌<◌, ◌≤◌, Bool, true, false, not, cond, List, [], ◌∷◌, ◌++◌, length, reverse, take, take_while, refl, ap, sym, ◌∙◌, arith}
-use Rattle.std.proofs.lemmas.Grind.{common_steps}
-use Rattle.std.proofs.lemmas.List.{reverse-append, length-reverse, length-take}
+use Rattle.spf_kernel.proofs.Common.{◌≡◌, ℕ, ◌+◌, ◌<◌, ◌≤◌, Bool, true, false, not, List, [], ◌∷◌, ◌++◌, length, take, refl, ap, sym, ◌∙◌, arith, common_steps, length-take, sum_by_push, sum_by-cons, Says, IsBelow, Fact, is_param, is_table, is_data, is_loop, is_site, count_that}
+use Rattle.std.proofs.Common.{cond, reverse, take_while}
+use Rattle.std.proofs.lemmas.List.{reverse-append, length-reverse}
 use Rattle.std.specs.List.{prefix_len}
-use Rattle.std.proofs.lemmas.List.Sums.{sum_by_push, sum_by-cons, count_by-le-length}
-use Rattle.spf_kernel.specs.declared.note.Says.{Says}
+use Rattle.std.proofs.lemmas.List.Sums.{count_by-le-length}
 use Rattle.spf_kernel.specs.declared.counts.Counts.{Counts}
-use Rattle.spf_kernel.specs.Counts.{counts_of, IsBelow}
-use Rattle.spf_kernel.specs.Facts.{Fact}
-use Rattle.spf_kernel.specs.Rules.{is_param, is_table, is_data, is_loop, is_target, is_site, is_factor, is_guard, is_condition, count_that, since}
+use Rattle.spf_kernel.specs.Counts.{counts_of}
+use Rattle.spf_kernel.specs.Rules.{is_target, is_factor, is_guard, is_condition, since}
 
 -- one more, where the test holds
 abbrev pub more : Bool → ℕ → ℕ

@@ -1,14 +1,7 @@
 -- Which names were declared, read off the sets of them.
-use Rattle.std.proofs.Common.{◌≡◌, ℕ, Bool, true, false, cond, List, [], ◌∷◌, ◌++◌, ◌||◌, fold, refl, ap, sym, ◌∙◌}
-use Rattle.std.proofs.lemmas.List.Folds.{list_any-append}
-use Rattle.std.proofs.lemmas.Slice.Eq.{bytes_eq-Decides}
-use Rattle.std.specs.List.{list_any}
-use Rattle.std.specs.Str.{bytes_eq}
-use Rattle.indexmap.specs.IndexSet.{insert_key}
-use Rattle.spf_kernel.specs.declared.before.Before.{Before}
+use Rattle.spf_kernel.proofs.Common.{◌≡◌, ℕ, Bool, true, false, List, [], ◌∷◌, ◌++◌, ◌||◌, fold, refl, ap, sym, ◌∙◌, list_any-append, bytes_eq-Decides, list_any, bytes_eq, insert_key, Before, Fact, is_param, is_table, is_data, is_loop, declares, names_that}
+use Rattle.std.proofs.Common.{cond}
 use Rattle.spf_kernel.specs.Before.{once, before_of}
-use Rattle.spf_kernel.specs.Facts.{Fact}
-use Rattle.spf_kernel.specs.Rules.{is_param, is_table, is_data, is_loop, declares, names_that}
 
 pub or_false : (b : Bool) → b ≡ b || false
 or_false true = refl

@@ -1,9 +1,5 @@
 -- Atoms and factors where brackets and parentheses may still stand.
-use Rattle.std.proofs.Common.{◌≡◌, ℕ, zero, suc, ◌-◌, ◌<◌, true, false, List, refl, ap, arith}
-use Rattle.spf_lex.specs.Derivation.{made}
-use Rattle.spf_lex.specs.Language.{Lexed}
-use Rattle.spf_lex.specs.Production.{begins}
-use Rattle.spf_lex.specs.declared.kind.Kind.{Kind}
+use Rattle.spf_kernel.proofs.Common.{◌≡◌, ℕ, zero, suc, ◌-◌, ◌<◌, true, false, List, refl, ap, arith, made, Lexed, begins, Kind}
 use Rattle.spf_kernel.specs.declared.raw.RawFactor.TheVariants as factor_is
 use Rattle.spf_kernel.specs.Productions.{atom, fact, ix, nested, number, subscripted, value}
 

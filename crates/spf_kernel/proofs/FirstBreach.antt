@@ -1,12 +1,8 @@
 -- The first breach of the notes, with one note more.
-use Rattle.std.proofs.Common.{◌≡◌, ℕ, ◌+◌, ◌<◌, ◌≤◌, Bool, true, false, List, [], ◌∷◌, ◌++◌, length, map, slice_get, Option, None, Some, refl, ap, sym, ◌∙◌, subst, position, nat_lt, ◌⊎◌, inl, inr, ⊎_elim, append_assoc, length-append, arith}
-use Rattle.std.proofs.lemmas.Bool.{ltb-true, ltb-false}
-use Rattle.std.specs.Option.{option_map}
-use Rattle.spf_kernel.specs.declared.note.Note.{Note}
-use Rattle.spf_kernel.specs.declared.rules.Breach.{Breach}
-use Rattle.spf_kernel.specs.Checked.{least_rule, Precedes, IsFirst}
-use Rattle.spf_kernel.specs.Facts.{Fact, fact_of, facts_of}
-use Rattle.spf_kernel.specs.Rules.{rules, has_capital, Breaks, IsFirstBreach, IsUnbroken}
+use Rattle.spf_kernel.proofs.Common.{◌≡◌, ℕ, ◌+◌, ◌<◌, ◌≤◌, Bool, true, false, List, [], ◌∷◌, ◌++◌, length, map, slice_get, Option, None, Some, refl, ap, sym, ◌∙◌, subst, position, nat_lt, ◌⊎◌, inl, inr, ⊎_elim, append_assoc, length-append, arith, ltb-false, option_map, Note, Breach, IsFirst, Fact, fact_of, facts_of, IsUnbroken}
+use Rattle.std.proofs.lemmas.Bool.{ltb-true}
+use Rattle.spf_kernel.specs.Checked.{least_rule, Precedes}
+use Rattle.spf_kernel.specs.Rules.{rules, has_capital, Breaks, IsFirstBreach}
 use Rattle.spf_kernel.proofs.Places.{position-map, none_passes, first_passes}
 
 -- a split of a list with one element more is at that element, or a split of the list

@@ -1,15 +1,6 @@
 -- A name that fits where it is used is a variable in scope, or its number is the number of a declared name.
-use Rattle.std.proofs.Common.{◌≡◌, ℕ, ◌+◌, Bool, true, false, ◌||◌, ◌&&◌, List, [], ◌∷◌, Option, None, Some, refl, sym, ap, subst, arith}
-use Rattle.std.specs.Option.{option_map, unwrap_or}
-use Rattle.std.proofs.lemmas.Slice.Eq.{bytes_eq-Decides}
-use Rattle.std.specs.Prelude.{if◌then◌else◌}
-use Rattle.std.specs.Str.{bytes_eq}
-use Rattle.spf_kernel.specs.declared.note.Spot.{Spot}
+use Rattle.spf_kernel.proofs.Common.{◌≡◌, ℕ, ◌+◌, Bool, true, false, ◌||◌, ◌&&◌, List, [], ◌∷◌, Option, None, Some, refl, sym, ap, subst, arith, option_map, unwrap_or, bytes_eq-Decides, if◌then◌else◌, bytes_eq, Spot, Fact, Names, names_of, number_of, variable_of, is_param, is_table, is_data, takes_data, takes_table, declares, fits, is_in_scope}
 use Rattle.spf_kernel.specs.declared.note.Spot.TheVariants as spot_is
-use Rattle.spf_kernel.specs.Facts.{Fact}
-use Rattle.spf_kernel.specs.Names.{Names, names_of, number_of}
-use Rattle.spf_kernel.specs.Resolved.{variable_of}
-use Rattle.spf_kernel.specs.Rules.{is_param, is_table, is_data, takes_data, takes_table, declares, fits, is_in_scope}
 use Rattle.spf_kernel.proofs.Counting.{more}
 use Rattle.spf_kernel.proofs.NamedNumbers.{IsNumberOf, number_found, number_declared, one_behind}
 

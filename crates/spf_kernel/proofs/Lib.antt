@@ -1,5 +1,9 @@
 pub mod Adding
+pub mod BodySites
+pub mod Bounded
+pub mod BoundedTerms
 pub mod Clear
+pub mod Common
 pub mod Counting
 pub mod Declared
 pub mod Depths
@@ -7,6 +11,7 @@ pub mod FewSites
 pub mod FewestPieces
 pub mod FirstBreach
 pub mod FittingNames
+pub mod GivenNames
 pub mod Mapped
 pub mod NameLists
 pub mod Named
@@ -16,6 +21,7 @@ pub mod NamedTerms
 pub mod NamedUses
 pub mod NamesAreWords
 pub mod Naming
+pub mod NoteCounts
 pub mod NoteEquations
 pub mod NothingNamed
 pub mod OneAnswer
@@ -28,6 +34,7 @@ pub mod PrintedConstants
 pub mod PrintedParses
 pub mod Signs
 pub mod SiteCounts
+pub mod SiteSums
 pub mod TermEquations
 pub mod TokenLeaves
 pub mod Unbroken

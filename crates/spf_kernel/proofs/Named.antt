@@ -1,34 +1,11 @@
 -- Where no rule is broken, each number in the tree that a kernel means names something.
-use Rattle.std.proofs.Common.{◌≡◌, ℕ, List, [], ◌∷◌, ◌++◌, length, map, flat_map, All, refl, sym, subst}
-use Rattle.std.specs.List.{AllByRecursion}
-use Rattle.std.proofs.lemmas.List.Elements.{All-from_recursion}
-use Rattle.spf_lex.proofs.Leaves.{split_each}
-use Rattle.spf_lex.specs.declared.cursor.Token.{Token}
-use Rattle.spf_kernel.specs.declared.note.Note.{Note}
-use Rattle.spf_kernel.specs.declared.note.Scope.{Scope}
+use Rattle.spf_kernel.proofs.Common.{◌≡◌, ℕ, List, [], ◌∷◌, ◌++◌, length, map, flat_map, All, refl, sym, subst, AllByRecursion, All-from_recursion, split_each, Token, Note, Scope, RawIx, RawAssign, RawCond, RawGuard, RawPart, RawItem, RawLoop, RawDecl, RawKernel, DataDecl, Tree, Fact, facts_of, text_of, variables_in, NameCounts, IsNamedTerm, Names, names_of, body_notes, bound_notes, head_notes, value_notes, assign_notes, cond_notes, guard_notes, part_notes, item_notes, cells_notes, decl_notes, IsParsed, assign_of, cond_of, guard_of, part_of, item_of, loop_of, head_of, data_decl_of, decl_of, tree_of, term_of, IsUnbroken, is_data, nothing, within, inside}
 use Rattle.spf_kernel.specs.declared.note.Spot.TheVariants as spot_is
-use Rattle.spf_kernel.specs.declared.raw.RawIx.{RawIx}
-use Rattle.spf_kernel.specs.declared.raw.RawAssign.{RawAssign}
-use Rattle.spf_kernel.specs.declared.raw.RawCond.{RawCond}
-use Rattle.spf_kernel.specs.declared.raw.RawGuard.{RawGuard}
-use Rattle.spf_kernel.specs.declared.raw.RawPart.{RawPart}
 use Rattle.spf_kernel.specs.declared.raw.RawPart.TheVariants as raw_part
-use Rattle.spf_kernel.specs.declared.raw.RawItem.{RawItem}
 use Rattle.spf_kernel.specs.declared.raw.RawItem.TheVariants as raw_item
-use Rattle.spf_kernel.specs.declared.raw.RawLoop.{RawLoop}
-use Rattle.spf_kernel.specs.declared.raw.RawDecl.{RawDecl}
 use Rattle.spf_kernel.specs.declared.raw.RawDecl.TheVariants as raw_decl
-use Rattle.spf_kernel.specs.declared.raw.RawKernel.{RawKernel}
-use Rattle.spf_kernel.specs.declared.tree.DataDecl.{DataDecl}
-use Rattle.spf_kernel.specs.declared.tree.Tree.{Tree}
-use Rattle.spf_kernel.specs.Facts.{Fact, facts_of, text_of, variables_in}
-use Rattle.spf_kernel.specs.Named.{NameCounts, counts_in, IsNamed, IsNamedTerm, IsNamedAssign, IsNamedCond, IsNamedGuard, IsNamedPart, IsNamedItem, IsNamedLoop, IsNamedDecl, IsNamedTree}
-use Rattle.spf_kernel.specs.Names.{Names, names_of}
-use Rattle.spf_kernel.specs.Notes.{body_notes, bound_notes, head_notes, value_notes, assign_notes, cond_notes, guard_notes, part_notes, item_notes, loop_notes, cells_notes, decl_notes, kernel_notes}
-use Rattle.spf_kernel.specs.Parsed.{IsParsed}
-use Rattle.spf_kernel.specs.Resolved.{assign_of, cond_of, guard_of, part_of, item_of, loop_of, head_of, data_decl_of, decl_of, tree_of, term_of}
-use Rattle.spf_kernel.specs.Rules.{IsUnbroken, is_data}
-use Rattle.spf_kernel.specs.Scopes.{nothing, within, inside}
+use Rattle.spf_kernel.specs.Named.{counts_in, IsNamed, IsNamedAssign, IsNamedCond, IsNamedGuard, IsNamedPart, IsNamedItem, IsNamedLoop, IsNamedDecl, IsNamedTree}
+use Rattle.spf_kernel.specs.Notes.{loop_notes, kernel_notes}
 use Rattle.spf_kernel.proofs.NamedLists.{params_found, tables_found, arrays_found}
 use Rattle.spf_kernel.proofs.NamedNumbers.{number_declared}
 use Rattle.spf_kernel.proofs.NamedTerms.{counts_of_names, value_named, expression_named}
@@ -42,7 +19,7 @@ module _ (texts : List (List ℕ)) (facts : List Fact) where
   counts = counts_of_names names
 
   -- what is made of each part is named, where the notes of the part fit
-  each_named : {A B : Type 0} (P : B → Type 0) (notes_of : A → List Note) (make : A → B) → ((x : A) → AreFitting texts facts (notes_of x) → P (make x))
+  pub each_named : {A B : Type 0} (P : B → Type 0) (notes_of : A → List Note) (make : A → B) → ((x : A) → AreFitting texts facts (notes_of x) → P (make x))
       → (xs : List A) → AreFitting texts facts (flat_map notes_of xs) → All P (map make xs)
   each_named {A} P notes_of make one xs each = All-from_recursion P (map make xs) (by xs each) where
     by : (xs : List A) → AreFitting texts facts (flat_map notes_of xs) → AllByRecursion P (map make xs)

@@ -1,13 +1,6 @@
 -- The number of a declared name is below the number of declared names, and the name of that number is the name.
-use Rattle.std.proofs.Common.{◌≡◌, ℕ, suc, ◌+◌, ◌<◌, Bool, true, false, not, cond, ◌||◌, List, [], ◌∷◌, length, refl, ap, sym, ◌∙◌, true≢false, arith}
-use Rattle.std.specs.List.{list_any}
-use Rattle.std.specs.Str.{bytes_eq}
-use Rattle.std.proofs.lemmas.Slice.Eq.{bytes_eq-Decides}
-use Rattle.spf_kernel.specs.declared.note.Says.{Says}
-use Rattle.spf_kernel.specs.Facts.{Fact}
-use Rattle.spf_kernel.specs.Names.{number_of}
-use Rattle.spf_kernel.specs.Rules.{declares, names_that}
-use Rattle.spf_kernel.specs.TreeNames.{name_at}
+use Rattle.spf_kernel.proofs.Common.{◌≡◌, ℕ, suc, ◌+◌, ◌<◌, Bool, true, false, not, ◌||◌, List, [], ◌∷◌, length, refl, ap, sym, ◌∙◌, true≢false, arith, list_any, bytes_eq, bytes_eq-Decides, Says, Fact, number_of, declares, names_that, name_at}
+use Rattle.std.proofs.Common.{cond}
 use Rattle.spf_kernel.proofs.Counting.{more}
 
 -- the number of a name among others

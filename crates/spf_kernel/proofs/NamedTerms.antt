@@ -1,32 +1,15 @@
 -- Where all used names fit, index expressions and values are named.
-use Rattle.std.proofs.Common.{◌≡◌, ℕ, ◌<◌, Bool, true, false, List, [], length, Option, None, Some, is_some, refl, subst}
-use Rattle.std.specs.Prelude.{ℤ, if◌then◌else◌}
-use Rattle.std.specs.List.{AllByRecursion}
+use Rattle.spf_kernel.proofs.Common.{◌≡◌, ℕ, ◌<◌, Bool, true, false, List, [], length, Option, None, Some, is_some, refl, subst, ℤ, if◌then◌else◌, AllByRecursion, split_each, join_each, Term, Term', roll-Term, out-roll-Term, Row_of-Mono, end_of-Mono, more_of-Mono, items-the_row-Mono, items_shown-the_row-Mono-0, Mono, Token, Spot, Scope, RawIx, RawIx', Row_of-RawStep, end_of-RawStep, more_of-RawStep, RawMono, Number', RawMono-Number-1-None', RawMono-Number-1-Some', RawAtom, RawAtom', RawAtom-at-None', RawAtom-at-Some', end_of-RawIx, more_of-RawIx, RawValue, RawValue', Row_of-RawFactor, end_of-RawFactor, more_of-RawFactor, Row_of-RawSummand, end_of-RawSummand, more_of-RawSummand, RawFactor, Paren', end_of-RawValue, more_of-RawValue, Value, Value', roll-Value, out-roll-Value, Row_of-Prod, end_of-Prod, more_of-Prod, items-the_row-Prod, items_shown-the_row-Prod-1, Row_of-Factor, end_of-Factor, more_of-Factor, items-the_row-Factor, items_shown-the_row-Factor-0, Prod, Fact, text_of, variables_in, NameCounts, IsNamedTerm, Names, names_of, ix_notes, steps_notes, mono_notes, atom_notes, value_notes, facts_notes, summands_notes, fact_notes, subscript_notes, excess_notes, expression_notes, ix_monomials, monomial_limit, number_notes, constant_of, variable_of, table_of, data_array_of, is_data_array, bare_atom, bare_factor, term_of, more_monos, monos_of, atom_of, factor_at, more_factors, more_prods, factor_of, takes_data, fits, inside}
 use Rattle.spf_base.specs.Wrap.{wrap}
-use Rattle.spf_lex.proofs.Leaves.{split_each, join_each}
-use Rattle.spf_term.specs.declared.term.Term.{Term, Term', out-Term, roll-Term, out-roll-Term, Row_of-Mono, end_of-Mono, more_of-Mono, items-the_row-Mono, items_shown-the_row-Mono-0}
-use Rattle.spf_term.specs.declared.term.Mono.{Mono}
-use Rattle.spf_lex.specs.declared.cursor.Token.{Token}
-use Rattle.spf_kernel.specs.declared.note.Spot.{Spot}
+use Rattle.spf_term.specs.declared.term.Term.{out-Term}
 use Rattle.spf_kernel.specs.declared.note.Spot.TheVariants as spot_is
-use Rattle.spf_kernel.specs.declared.note.Scope.{Scope}
-use Rattle.spf_kernel.specs.declared.raw.RawIx.{RawIx, RawIx', Row_of-RawStep, end_of-RawStep, more_of-RawStep}
-use Rattle.spf_kernel.specs.declared.raw.RawMono.{RawMono, Number', RawMono-Number-1-None', RawMono-Number-1-Some'}
 use Rattle.spf_kernel.specs.declared.raw.RawMono as raw_mono
-use Rattle.spf_kernel.specs.declared.raw.RawAtom.{RawAtom, out-RawAtom, RawAtom', RawAtom-at-None', RawAtom-at-Some', end_of-RawIx, more_of-RawIx}
-use Rattle.spf_kernel.specs.declared.raw.RawValue.{RawValue, RawValue', Row_of-RawFactor, end_of-RawFactor, more_of-RawFactor, Row_of-RawSummand, end_of-RawSummand, more_of-RawSummand}
-use Rattle.spf_kernel.specs.declared.raw.RawFactor.{RawFactor, Paren', end_of-RawValue, more_of-RawValue}
+use Rattle.spf_kernel.specs.declared.raw.RawAtom.{out-RawAtom}
 use Rattle.spf_kernel.specs.declared.raw.RawFactor.TheVariants as raw_factor
-use Rattle.spf_kernel.specs.declared.tree.Value.{Value, Value', out-Value, roll-Value, out-roll-Value, Row_of-Prod, end_of-Prod, more_of-Prod, items-the_row-Prod, items_shown-the_row-Prod-1, Row_of-Factor, end_of-Factor, more_of-Factor, items-the_row-Factor, items_shown-the_row-Factor-0}
-use Rattle.spf_kernel.specs.declared.tree.Prod.{Prod}
+use Rattle.spf_kernel.specs.declared.tree.Value.{out-Value}
 use Rattle.spf_kernel.specs.declared.tree.Factor.TheVariants as factor
-use Rattle.spf_kernel.specs.Facts.{Fact, text_of, variables_in}
-use Rattle.spf_kernel.specs.Named.{NameCounts, IsNamedTerm, AreNamedMonos, IsNamedAtom, IsNamedValue, AreNamedProds, AreNamedFactors, IsNamedFactor}
-use Rattle.spf_kernel.specs.Names.{Names, names_of}
-use Rattle.spf_kernel.specs.Notes.{ix_notes, steps_notes, mono_notes, atom_notes, value_notes, facts_notes, summands_notes, fact_notes, subscript_notes, excess_notes, expression_notes, ix_monomials, monomial_limit, number_notes}
-use Rattle.spf_kernel.specs.Resolved.{constant_of, variable_of, table_of, data_array_of, is_data_array, bare_atom, bare_factor, term_of, more_monos, monos_of, atom_of, factor_at, value_of, more_factors, more_prods, factor_of}
-use Rattle.spf_kernel.specs.Rules.{takes_data, fits}
-use Rattle.spf_kernel.specs.Scopes.{inside}
+use Rattle.spf_kernel.specs.Named.{AreNamedMonos, IsNamedAtom, IsNamedValue, AreNamedProds, AreNamedFactors, IsNamedFactor}
+use Rattle.spf_kernel.specs.Resolved.{value_of}
 use Rattle.spf_kernel.proofs.FittingNames.{IsBare, bare_fits, table_fits, IsEntry, entry_fits, variable_named}
 use Rattle.spf_kernel.proofs.NamedUses.{AreFitting, IsFitting}
 

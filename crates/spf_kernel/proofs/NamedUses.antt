@@ -1,15 +1,5 @@
 -- Where no rule is broken, each used name fits the place that it stands at, by all that is declared.
-use Rattle.std.proofs.Common.{◌≡◌, ℕ, Bool, true, false, not, ◌||◌, ◌&&◌, List, [], ◌∷◌, ◌++◌, refl, ap, ◌∙◌, subst, true≢false, append_assoc, arith}
-use Rattle.std.specs.Prelude.{⊤}
-use Rattle.std.proofs.lemmas.List.Folds.{list_any-append}
-use Rattle.std.specs.List.{list_any, AllByRecursion}
-use Rattle.std.specs.Str.{bytes_eq}
-use Rattle.spf_kernel.specs.declared.note.Note.{Note}
-use Rattle.spf_kernel.specs.declared.note.Says.{Says}
-use Rattle.spf_kernel.specs.declared.note.Says.TheVariants.{Used, Large, Excess}
-use Rattle.spf_kernel.specs.declared.note.Spot.{Spot}
-use Rattle.spf_kernel.specs.Facts.{Fact, fact_of, facts_of}
-use Rattle.spf_kernel.specs.Rules.{IsUnbroken, is_data, is_in_scope, is_param, is_table, names_that, takes_data, takes_table, is_known, declares, fits}
+use Rattle.spf_kernel.proofs.Common.{◌≡◌, ℕ, Bool, true, false, not, ◌||◌, ◌&&◌, List, [], ◌∷◌, ◌++◌, refl, ap, ◌∙◌, subst, true≢false, append_assoc, arith, ⊤, list_any-append, list_any, AllByRecursion, bytes_eq, Note, Says, Used, Large, Excess, Spot, Fact, fact_of, facts_of, IsUnbroken, is_data, is_in_scope, is_param, is_table, names_that, takes_data, takes_table, is_known, declares, fits}
 use Rattle.spf_kernel.proofs.Adding.{names_append}
 use Rattle.spf_kernel.proofs.Counting.{more}
 use Rattle.spf_kernel.proofs.Unbroken.{AreSound, Keeps, sound}

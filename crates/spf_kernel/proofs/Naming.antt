@@ -1,14 +1,5 @@
 -- The names of notes, told of the parts of their list.
-use Rattle.std.proofs.Common.{◌≡◌, ℕ, zero, suc, ◌<◌, Bool, List, [], ◌∷◌, ◌++◌, length, map, flat_map, get_or, All, arith, sym, subst}
-use Rattle.std.proofs.lemmas.Grind.{common_steps}
-use Rattle.spf_base.specs.Word.{IsName}
-use Rattle.spf_lex.specs.declared.cursor.Token.{Token}
-use Rattle.spf_kernel.specs.declared.note.Note.{Note}
-use Rattle.spf_kernel.specs.declared.note.Says.{Says}
-use Rattle.spf_kernel.specs.Facts.{text_of}
-use Rattle.spf_kernel.specs.Notes.{param_note}
-use Rattle.spf_kernel.specs.Resolved.{AreNames}
-use Rattle.spf_kernel.specs.Rules.{tokens_that, is_naming}
+use Rattle.spf_kernel.proofs.Common.{◌≡◌, ℕ, zero, suc, ◌<◌, Bool, List, [], ◌∷◌, ◌++◌, length, map, flat_map, get_or, All, arith, sym, subst, common_steps, IsName, Token, Note, Says, text_of, param_note, AreNames, tokens_that, is_naming}
 
 module _ {X : Type 0} (P : X → Type 0) where
   all_left : (xs ys : List X) → All P (xs ++ ys) → All P xs

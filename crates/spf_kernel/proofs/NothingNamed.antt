@@ -1,123 +1,109 @@
 -- Index expressions, values and statements give no name to anything.
-use Rattle.std.proofs.Common.{◌≡◌, nat_lt, Bool, true, false, List, [], ◌∷◌, ◌++◌, map, flat_map, drop, Option, None, Some, refl}
-use Rattle.std.specs.Prelude.{if◌then◌else◌}
-use Rattle.spf_lex.specs.declared.cursor.Token.{Token}
-use Rattle.spf_kernel.specs.declared.note.Says.TheVariants.{Large, Excess}
-use Rattle.std.specs.List.{AllByRecursion}
-use Rattle.spf_lex.proofs.Leaves.{join_each}
-use Rattle.spf_kernel.specs.declared.raw.RawIx.{RawIx, RawIx', Row_of-RawStep, end_of-RawStep, more_of-RawStep}
-use Rattle.spf_kernel.specs.declared.raw.RawMono.{RawMono, Number', Atom, RawMono-Number-1-None', RawMono-Number-1-Some'}
-use Rattle.spf_kernel.specs.declared.raw.RawAtom.{RawAtom, out-RawAtom, RawAtom', RawAtom-at-None', RawAtom-at-Some', Row_of-RawIx, end_of-RawIx, more_of-RawIx}
-use Rattle.spf_kernel.specs.declared.raw.RawValue.{RawValue, RawValue', Row_of-RawFactor, end_of-RawFactor, more_of-RawFactor, Row_of-RawSummand, end_of-RawSummand, more_of-RawSummand}
-use Rattle.spf_kernel.specs.declared.raw.RawFactor.{RawFactor, Paren', Row_of-RawValue, end_of-RawValue, more_of-RawValue}
+use Rattle.spf_kernel.proofs.Common.{◌≡◌, nat_lt, Bool, true, false, List, [], ◌∷◌, ◌++◌, map, filter, flat_map, drop, Option, None, Some, refl, ap, ◌∙◌, if◌then◌else◌, Token, Large, Excess, RawIx, RawIx', Row_of-RawStep, end_of-RawStep, more_of-RawStep, RawMono, Number', RawMono-Number-1-None', RawMono-Number-1-Some', RawAtom, RawAtom', RawAtom-at-None', RawAtom-at-Some', end_of-RawIx, more_of-RawIx, RawValue, RawValue', Row_of-RawFactor, end_of-RawFactor, more_of-RawFactor, Row_of-RawSummand, end_of-RawSummand, more_of-RawSummand, RawFactor, Paren', Row_of-RawValue, end_of-RawValue, more_of-RawValue, RawAssign, RawCond, RawPart, Note, Spot, Scope, ix_notes, steps_notes, mono_notes, atom_notes, expression_notes, value_notes, facts_notes, summands_notes, fact_notes, subscript_notes, assign_notes, cond_notes, part_notes, ix_monomials, mark, monomial_limit, number_limit, number_notes, is_naming}
+use Rattle.std.proofs.lemmas.List.Elements.{filter-append}
+use Rattle.spf_kernel.specs.declared.raw.RawMono.{Atom}
+use Rattle.spf_kernel.specs.declared.raw.RawAtom.{out-RawAtom, Row_of-RawIx}
 use Rattle.spf_kernel.specs.declared.raw.RawFactor.TheVariants as factor_is
-use Rattle.spf_kernel.specs.declared.raw.RawAssign.{RawAssign}
-use Rattle.spf_kernel.specs.declared.raw.RawCond.{RawCond}
-use Rattle.spf_kernel.specs.declared.raw.RawGuard.{RawGuard}
-use Rattle.spf_kernel.specs.declared.raw.RawPart.{RawPart}
 use Rattle.spf_kernel.specs.declared.raw.RawPart.TheVariants as part_is
-use Rattle.spf_kernel.specs.declared.note.Note.{Note}
-use Rattle.spf_kernel.specs.declared.note.Spot.{Spot}
 use Rattle.spf_kernel.specs.declared.note.Spot.TheVariants as spot_is
-use Rattle.spf_kernel.specs.declared.note.Scope.{Scope}
-use Rattle.spf_kernel.specs.Notes.{ix_notes, steps_notes, mono_notes, atom_notes, nested_notes, expression_notes, value_notes, facts_notes, summands_notes, fact_notes, inside_notes, read_notes, subscript_notes, body_notes, assign_notes, cond_notes, guard_notes, part_notes, excess_notes, ix_monomials, mark, monomial_limit, number_limit, number_notes}
-use Rattle.spf_kernel.specs.Rules.{is_naming}
-use Rattle.spf_kernel.specs.Scopes.{inside}
+use Rattle.spf_kernel.specs.Notes.{nested_notes, inside_notes}
 
--- what holds of the notes of each of a list's elements holds of all of them
-pub each_of_flat_map : {A : Type 0} (P : Note → Type 0) (notes : A → List Note) → ((x : A) → AllByRecursion P (notes x)) → (xs : List A) → AllByRecursion P (flat_map notes xs)
-each_of_flat_map P notes one [] = tt
-each_of_flat_map P notes one (x ∷ xs) = join_each P (notes x) (flat_map notes xs) (one x) (each_of_flat_map P notes one xs)
+-- the notes that give a name
+abbrev pub giving : List Note → List Note
+giving notes = filter (λ note. is_naming note.says) notes
 
--- what holds of the notes that give no name holds of each of these
-module _ (P : Note → Type 0) (none : (note : Note) → is_naming note.says ≡ false → P note) where
-  both : (xs ys : List Note) → AllByRecursion P xs → AllByRecursion P ys → AllByRecursion P (xs ++ ys)
-  both = join_each P
+pub giving_append : (a b : List Note) → giving (a ++ b) ≡ giving a ++ giving b
+giving_append = filter-append (λ note. is_naming note.says)
 
-  -- ---- index expressions
+-- none of these gives one
+pub record AreNameless (notes : List Note) : Type 0 where
+  pub none : giving notes ≡ []
 
-  number_each : (times : Bool) (number : Token) → AllByRecursion P (number_notes times number)
-  number_each times number = by (nat_lt (number_limit times) number.value) where
-    by : (b : Bool) → AllByRecursion P (if b then mark number Large ∷ [] else [])
-    by true = (none _ refl, tt)
-    by false = tt
+no_notes : AreNameless []
+no_notes = record { none = refl }
 
-  excess_each : (tokens : List Token) → AllByRecursion P (map (λ token. mark token Excess) tokens)
-  excess_each [] = tt
-  excess_each (token ∷ tokens) = (none _ refl, excess_each tokens)
+led : {n : Note} {notes : List Note} → is_naming n.says ≡ false → AreNameless notes → AreNameless (n ∷ notes)
+led {n} {notes} e others = record { none = ap (λ (b : Bool). if b then n ∷ giving notes else giving notes) e ∙ others.none }
 
-  module _ (spot : Spot) (scope : Scope) where
-    mutual
-      ix_each : (x : RawIx) → AllByRecursion P (ix_notes spot scope x)
-      ix_each (RawIx' shape steps) = steps_each steps
+infixl 10 ◌&◌
+pub ◌&◌ : {a b : List Note} → AreNameless a → AreNameless b → AreNameless (a ++ b)
+◌&◌ {a} {b} x y = record { none = giving_append a b ∙ (λ i. x.none i ++ y.none i) }
 
-      steps_each : {n : _} (row : Row_of-RawStep n) → AllByRecursion P (steps_notes spot scope row)
-      steps_each end_of-RawStep = tt
-      steps_each (more_of-RawStep minus mono others) = both (mono_notes spot scope mono) (steps_notes spot scope others) (mono_each mono) (steps_each others)
+pub each_nameless : {A : Type 0} {notes : A → List Note} → ((x : A) → AreNameless (notes x)) → (xs : List A) → AreNameless (flat_map notes xs)
+each_nameless one [] = no_notes
+each_nameless one (x ∷ xs) = one x & each_nameless one xs
 
-      mono_each : (x : RawMono) → AllByRecursion P (mono_notes spot scope x)
-      mono_each (Number' number RawMono-Number-1-None') = number_each false number
-      mono_each (Number' number (RawMono-Number-1-Some' atom)) = both (number_notes true number) (atom_notes spot scope atom) (number_each true number) (atom_each atom)
-      mono_each (Atom atom) = atom_each atom
+-- ---- index expressions
 
-      atom_each : (x : RawAtom) → AllByRecursion P (atom_notes spot scope x)
-      atom_each (RawAtom' name RawAtom-at-None') = (none _ refl, tt)
-      atom_each (RawAtom' name (RawAtom-at-Some' shape at)) = (none _ refl, nested_each at)
+number_each : (times : Bool) (number : Token) → AreNameless (number_notes times number)
+number_each times number = by (nat_lt (number_limit times) number.value) where
+  by : (b : Bool) → AreNameless (if b then mark number Large ∷ [] else [])
+  by true = led refl no_notes
+  by false = no_notes
 
-      nested_each : {n : _} (row : Row_of-RawIx n) → AllByRecursion P (nested_notes spot scope row)
-      nested_each end_of-RawIx = tt
-      nested_each (more_of-RawIx x others) = both (ix_notes spot scope x) (nested_notes spot scope others) (ix_each x) (nested_each others)
+excess_each : (tokens : List Token) → AreNameless (map (λ token. mark token Excess) tokens)
+excess_each [] = no_notes
+excess_each (token ∷ tokens) = led refl (excess_each tokens)
 
-    pub expression_each : (x : RawIx) → AllByRecursion P (expression_notes spot scope x)
-    expression_each x = both (excess_notes (monomial_limit spot) (ix_monomials x)) (ix_notes spot scope x) (excess_each (drop (monomial_limit spot) (ix_monomials x))) (ix_each x)
+module _ (spot : Spot) (scope : Scope) where
+  mutual
+    ix_each : (x : RawIx) → AreNameless (ix_notes spot scope x)
+    ix_each (RawIx' shape steps) = steps_each steps
 
-  -- ---- values and statements
+    steps_each : {n : _} (row : Row_of-RawStep n) → AreNameless (steps_notes spot scope row)
+    steps_each end_of-RawStep = no_notes
+    steps_each (more_of-RawStep minus mono others) = mono_each mono & steps_each others
 
-  module _ (scope : Scope) where
-    subscript_each : (at : Option RawIx) → AllByRecursion P (subscript_notes scope at)
-    subscript_each None = tt
-    subscript_each (Some x) = expression_each spot_is.Body scope x
+    mono_each : (x : RawMono) → AreNameless (mono_notes spot scope x)
+    mono_each (Number' number RawMono-Number-1-None') = number_each false number
+    mono_each (Number' number (RawMono-Number-1-Some' atom)) = number_each true number & atom_each atom
+    mono_each (Atom atom) = atom_each atom
 
-    read_each : (x : RawAtom) → AllByRecursion P (read_notes scope x)
-    read_each x = (none _ refl, (none _ refl, subscript_each (out-RawAtom x).at))
+    atom_each : (x : RawAtom) → AreNameless (atom_notes spot scope x)
+    atom_each (RawAtom' name RawAtom-at-None') = led refl no_notes
+    atom_each (RawAtom' name (RawAtom-at-Some' shape at)) = led refl (nested_each at)
 
-    mutual
-      value_each : (x : RawValue) → AllByRecursion P (value_notes scope x)
-      value_each (RawValue' shape summands) = summands_each summands
+    nested_each : {n : _} (row : Row_of-RawIx n) → AreNameless (nested_notes spot scope row)
+    nested_each end_of-RawIx = no_notes
+    nested_each (more_of-RawIx x others) = ix_each x & nested_each others
 
-      facts_each : {n : _} (row : Row_of-RawFactor n) → AllByRecursion P (facts_notes scope row)
-      facts_each end_of-RawFactor = tt
-      facts_each (more_of-RawFactor x others) = both (fact_notes scope x) (facts_notes scope others) (fact_each x) (facts_each others)
+  pub expression_each : (x : RawIx) → AreNameless (expression_notes spot scope x)
+  expression_each x = excess_each (drop (monomial_limit spot) (ix_monomials x)) & ix_each x
 
-      summands_each : {n : _} (row : Row_of-RawSummand n) → AllByRecursion P (summands_notes scope row)
-      summands_each end_of-RawSummand = tt
-      summands_each (more_of-RawSummand minus shape facts others) = both (facts_notes scope facts) (summands_notes scope others) (facts_each facts) (summands_each others)
+-- ---- values and statements
 
-      fact_each : (x : RawFactor) → AllByRecursion P (fact_notes scope x)
-      fact_each (factor_is.Number number) = (none _ refl, tt)
-      fact_each (Paren' shape inside) = inside_each inside
-      fact_each (factor_is.Name atom) = read_each atom
+module _ (scope : Scope) where
+  subscript_each : (at : Option RawIx) → AreNameless (subscript_notes scope at)
+  subscript_each None = no_notes
+  subscript_each (Some x) = expression_each spot_is.Body scope x
 
-      inside_each : {n : _} (row : Row_of-RawValue n) → AllByRecursion P (inside_notes scope row)
-      inside_each end_of-RawValue = tt
-      inside_each (more_of-RawValue x others) = both (value_notes scope x) (inside_notes scope others) (value_each x) (inside_each others)
+  mutual
+    value_each : (x : RawValue) → AreNameless (value_notes scope x)
+    value_each (RawValue' shape summands) = summands_each summands
 
-    assign_each : (x : RawAssign) → AllByRecursion P (assign_notes scope x)
-    assign_each x =
-        (none _ refl, both (body_notes scope x.at) (value_notes scope x.value) (expression_each spot_is.Body scope x.at) (value_each x.value))
+    facts_each : {n : _} (row : Row_of-RawFactor n) → AreNameless (facts_notes scope row)
+    facts_each end_of-RawFactor = no_notes
+    facts_each (more_of-RawFactor x others) = fact_each x & facts_each others
 
-    cond_each : (x : RawCond) → AllByRecursion P (cond_notes scope x)
-    cond_each x =
-        (none _ refl, both (body_notes scope x.left) (body_notes scope x.right) (expression_each spot_is.Body scope x.left) (expression_each spot_is.Body scope x.right))
+    summands_each : {n : _} (row : Row_of-RawSummand n) → AreNameless (summands_notes scope row)
+    summands_each end_of-RawSummand = no_notes
+    summands_each (more_of-RawSummand minus shape facts others) = facts_each facts & summands_each others
 
-    guard_each : (x : RawGuard) → AllByRecursion P (guard_notes scope x)
-    guard_each x = (
-      none _ refl,
-      both (flat_map (cond_notes scope) x.conds) (flat_map (assign_notes scope) x.body)
-          (each_of_flat_map P (cond_notes scope) cond_each x.conds)
-          (each_of_flat_map P (assign_notes scope) assign_each x.body),
-    )
+    fact_each : (x : RawFactor) → AreNameless (fact_notes scope x)
+    fact_each (factor_is.Number number) = led refl no_notes
+    fact_each (Paren' shape inside) = inside_each inside
+    fact_each (factor_is.Name atom) = led refl (led refl (subscript_each (out-RawAtom atom).at))
 
-    pub part_each : (x : RawPart) → AllByRecursion P (part_notes scope x)
-    part_each (part_is.Assign x) = assign_each x
-    part_each (part_is.Guard x) = guard_each x
+    inside_each : {n : _} (row : Row_of-RawValue n) → AreNameless (inside_notes scope row)
+    inside_each end_of-RawValue = no_notes
+    inside_each (more_of-RawValue x others) = value_each x & inside_each others
+
+  assign_each : (x : RawAssign) → AreNameless (assign_notes scope x)
+  assign_each x = led refl (expression_each spot_is.Body scope x.at & value_each x.value)
+
+  cond_each : (x : RawCond) → AreNameless (cond_notes scope x)
+  cond_each x = led refl (expression_each spot_is.Body scope x.left & expression_each spot_is.Body scope x.right)
+
+  pub part_each : (x : RawPart) → AreNameless (part_notes scope x)
+  part_each (part_is.Assign x) = assign_each x
+  part_each (part_is.Guard x) = led refl (each_nameless cond_each x.conds & each_nameless assign_each x.body)

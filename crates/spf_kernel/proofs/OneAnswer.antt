@@ -1,14 +1,9 @@
 -- Where a text is parsed to a tree, that tree is the only answer besides want of memory.
-use Rattle.std.proofs.Common.{◌≡◌, ℕ, Result, Ok, Err, refl, sym, ap, ◌∙◌, subst, inl, inr}
-use Rattle.std.specs.Prelude.{◌⊎◌}
-use Rattle.spf_lex.specs.Tokens.{Tokenized, texts}
+use Rattle.spf_kernel.proofs.Common.{◌≡◌, ℕ, Result, Ok, Err, refl, sym, ap, ◌∙◌, subst, inl, inr, ◌⊎◌, Tokenized, texts, RawKernel, Tree, ParsesTo, meaning, IsUnbroken}
 use Rattle.spf_kernel.specs.declared.fault.KernelFault.{KernelFault}
 use Rattle.spf_kernel.specs.declared.fault.KernelFault.TheVariants.{Syntax, Rule, Memory}
-use Rattle.spf_kernel.specs.declared.raw.RawKernel.{RawKernel}
-use Rattle.spf_kernel.specs.declared.tree.Tree.{Tree}
 use Rattle.spf_kernel.specs.Notes.{kernel_notes}
-use Rattle.spf_kernel.specs.Parsed.{ParsesTo, IsAnswer, meaning}
-use Rattle.spf_kernel.specs.Rules.{IsUnbroken}
+use Rattle.spf_kernel.specs.Parsed.{IsAnswer}
 use Rattle.spf_kernel.proofs.OneKernel.{one_kernel, no_syntax_fault}
 
 module _ (tokens : Tokenized) (from next : ℕ) (tree : Tree) (parses : ParsesTo tokens from next tree) where

@@ -1,18 +1,11 @@
 -- From a token on at most one kernel stands, with one raw tree, and where one stands no fault of syntax does.
-use Rattle.std.proofs.Common.{◌≡◌, ℕ, List, Result}
-use Rattle.spf_base.specs.declared.place.Place.{Place}
-use Rattle.spf_lex.specs.BundleWords.{bundle_words}
-use Rattle.spf_lex.specs.Language.{Lexed}
+use Rattle.spf_kernel.proofs.Common.{◌≡◌, ℕ, List, Result, Place, bundle_words, Lexed, Tokenized, Kind, RawKernel, IsKernel, StandsAt}
 use Rattle.spf_lex.specs.Standing.{FindsAt, FindsBy}
-use Rattle.spf_lex.specs.Tokens.{Tokenized}
-use Rattle.spf_lex.specs.declared.kind.Kind.{Kind}
 use Rattle.spf_lex.specs.declared.parts.PartFault.{PartFault}
 use Rattle.spf_lex.specs.declared.text_kind.TextKind.{TextKind}
 use Rattle.spf_lex.proofs.Finding as finding
-use Rattle.spf_kernel.specs.declared.raw.RawKernel.{RawKernel}
-use Rattle.spf_kernel.specs.IsKernel.{IsKernel}
 use Rattle.spf_kernel.specs.Productions.{kernel}
-use Rattle.spf_kernel.specs.Stands.{IsSyntaxFault, StandsAt}
+use Rattle.spf_kernel.specs.Stands.{IsSyntaxFault}
 use Rattle.spf_kernel.proofs.Clear.{kernel_clear, kernel_closed, kinds_exact}
 
 pub one_tree : (tokens : List (Lexed Kind)) (a b : RawKernel) → IsKernel tokens a → IsKernel tokens b → a ≡ b

@@ -1,11 +1,9 @@
 -- The first element that passes a test, and its number from 1.
-use Rattle.std.proofs.Common.{◌≡◌, ℕ, ◌+◌, ◌<◌, ◌≤◌, Bool, true, false, cond, List, length, map, nat_lt, slice_get, get_or, position, None, Some, refl, ap, sym, ◌∙◌, true≢false, ⊎_elim, arith}
-use Rattle.std.proofs.lemmas.Bool.{cases_lt, lt-ltb, le-ltb}
-use Rattle.std.proofs.lemmas.List.{length-map}
+use Rattle.spf_kernel.proofs.Common.{◌≡◌, ℕ, ◌+◌, ◌<◌, ◌≤◌, Bool, true, false, List, length, map, nat_lt, slice_get, get_or, position, None, Some, refl, ap, sym, ◌∙◌, true≢false, ⊎_elim, arith, le-ltb, length-map, get_or_from_slice_get, slice_get_within, position_or_len, option_map}
+use Rattle.std.proofs.Common.{cond}
+use Rattle.std.proofs.lemmas.Bool.{cases_lt, lt-ltb}
 use Rattle.std.proofs.lemmas.List.Sums.{fails_before_first, passes_at_first}
-use Rattle.std.proofs.lemmas.Option.{get_or_from_slice_get, slice_get_within, slice_get-get_or}
-use Rattle.std.specs.List.{position_or_len}
-use Rattle.std.specs.Option.{option_map}
+use Rattle.std.proofs.lemmas.Option.{slice_get-get_or}
 use Rattle.spf_kernel.proofs.NameLists.{position_or_len-map}
 
 -- the first place that passes is that of the first test that holds

@@ -1,30 +1,12 @@
 -- The words of a tree that some text is parsed to are parsed to it.
-use Rattle.std.proofs.Common.{◌≡◌, ℕ, List, [], length, refl, sym, ap, ◌∙◌, subst}
-use Rattle.std.proofs.lemmas.List.Elements.{All-from_recursion}
-use Rattle.spf_lex.specs.BundleWords.{bundle_words}
-use Rattle.spf_lex.specs.Derivation.{Derivation}
-use Rattle.spf_lex.specs.Joined.{joined}
-use Rattle.spf_lex.specs.Language.{Lexed}
-use Rattle.spf_lex.specs.Tokens.{Tokenized, IsTokenText, texts}
-use Rattle.spf_lex.specs.declared.kind.Kind.{Kind}
+use Rattle.spf_kernel.proofs.Common.{◌≡◌, ℕ, List, [], length, refl, sym, ap, ◌∙◌, subst, All-from_recursion, bundle_words, Derivation, joined, Lexed, Tokenized, IsTokenText, texts, Kind, in_words, each_text, standing_leaves, Note, RawKernel, Tree, IsKernel, Names, names_of, IsParsed, IsTextOf, ParsesTo, meaning, words_of, tree_of, IsUnbroken}
 use Rattle.spf_lex.specs.declared.token_list.Span.{Span}
 use Rattle.spf_lex.proofs.Joining.{joined_tokens}
 use Rattle.spf_lex.proofs.Leaves.{Leaves}
 use Rattle.spf_lex.proofs.PrintedTexts.{stands_printed}
-use Rattle.spf_lex.proofs.PrintedWords.{holds_all, in_words}
-use Rattle.spf_lex.proofs.Spans.{each_text}
-use Rattle.spf_lex.proofs.StandingLeaves.{standing_leaves}
-use Rattle.spf_kernel.specs.declared.note.Note.{Note}
-use Rattle.spf_kernel.specs.declared.raw.RawKernel.{RawKernel}
-use Rattle.spf_kernel.specs.declared.tree.Tree.{Tree}
-use Rattle.spf_kernel.specs.IsKernel.{IsKernel}
-use Rattle.spf_kernel.specs.Names.{Names, names_of}
+use Rattle.spf_lex.proofs.PrintedWords.{holds_all}
 use Rattle.spf_kernel.specs.Notes.{kernel_notes}
-use Rattle.spf_kernel.specs.Parsed.{IsParsed, IsTextOf, ParsesTo, meaning}
-use Rattle.spf_kernel.specs.Printed.{words_of}
 use Rattle.spf_kernel.specs.Productions.{kernel}
-use Rattle.spf_kernel.specs.Resolved.{tree_of}
-use Rattle.spf_kernel.specs.Rules.{IsUnbroken}
 use Rattle.spf_kernel.proofs.NamedUses.{all_fit}
 use Rattle.spf_kernel.proofs.TokenLeaves.{token_is_leaf}
 use Rattle.spf_kernel.proofs.Unbroken.{AreSound, unbroken_by, sound}

@@ -1,6 +1,7 @@
 -- Numbers of 64 bits with a sign in front of them, and their sums.
-use Rattle.std.proofs.Common.{◌≡◌, ℕ, ℤ, pos, neg_ℤ, ◌-ℤ◌, ◌+ℤ◌, ◌<◌, ◌^◌, ◌%◌, arith, w64, sym, ap, ◌∙◌}
-use Rattle.std.proofs.lemmas.Int.{ints, int_wrap-add_left, int_wrap-add_right, int_wrap-sub_right}
+use Rattle.spf_kernel.proofs.Common.{◌≡◌, ℕ, ℤ, pos, ◌+ℤ◌, ◌<◌, ◌^◌, ◌%◌, arith, w64, sym, ap, ◌∙◌, ints}
+use Rattle.std.proofs.Common.{neg_ℤ, ◌-ℤ◌}
+use Rattle.std.proofs.lemmas.Int.{int_wrap-add_left, int_wrap-add_right, int_wrap-sub_right}
 use Rattle.std.specs.Int.{cast_signed, int_wrap}
 use Rattle.spf_base.specs.Wrap.{wrap}
 

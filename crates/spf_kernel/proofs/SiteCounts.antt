@@ -1,12 +1,9 @@
 -- The data sites of values, told of their parts as lists, and sums over the front of a list.
-use Rattle.std.proofs.Common.{◌≡◌, ℕ, ◌+◌, ◌<◌, ◌≤◌, List, [], ◌∷◌, ◌++◌, length, take, get_or, refl, ap, sym, ◌∙◌, arith}
-use Rattle.std.proofs.lemmas.List.{take_more}
-use Rattle.std.proofs.lemmas.List.Sums.{sum_by_push, sum_by-cons, sum_by-take-le}
-use Rattle.std.specs.List.{sum_by}
-use Rattle.spf_kernel.specs.declared.tree.Value.{Value, Value', out-Value, roll-Value, out-roll-Value, Row_of-Prod, end_of-Prod, more_of-Prod, items-the_row-Prod, items_shown-the_row-Prod-1, Row_of-Factor, end_of-Factor, more_of-Factor, items-the_row-Factor, items_shown-the_row-Factor-0}
-use Rattle.spf_kernel.specs.declared.tree.Prod.{Prod}
+use Rattle.spf_kernel.proofs.Common.{◌≡◌, ℕ, ◌+◌, ◌<◌, ◌≤◌, List, [], ◌∷◌, ◌++◌, length, take, get_or, refl, ap, sym, ◌∙◌, arith, take_more, sum_by_push, sum_by-cons, sum_by, Value, Value', Row_of-Prod, end_of-Prod, more_of-Prod, items-the_row-Prod, items_shown-the_row-Prod-1, Row_of-Factor, end_of-Factor, more_of-Factor, items-the_row-Factor, items_shown-the_row-Factor-0, value_sites, fact_sites, prod_sites}
+use Rattle.std.proofs.lemmas.List.Sums.{sum_by-take-le}
+use Rattle.spf_kernel.specs.declared.tree.Value.{out-Value}
 use Rattle.spf_kernel.specs.declared.tree.Factor.TheBlock.{shown-the_row-Factor-0}
-use Rattle.spf_kernel.specs.Sites.{value_sites, prods_sites, facts_sites, fact_sites, prod_sites}
+use Rattle.spf_kernel.specs.Sites.{prods_sites, facts_sites}
 
 -- one element more of the front of a list
 module _ {A : Type 0} (f : A → ℕ) (xs : List A) (n : ℕ) (x : A) (inside : n < length xs) (at : x ≡ get_or xs n x) where
@@ -32,7 +29,3 @@ prods_are (more_of-Prod minus shape facts others) =
 pub value_sites_are : (value : Value) → value_sites value ≡ sum_by prod_sites (out-Value value).prods
 unfolding out-Value denote.Hole.Carrier.out
 value_sites_are (Value' shape prods) = prods_are prods ∙ ap (sum_by prod_sites) (sym (items_shown-the_row-Prod-1 shape prods))
-
--- the sites of the sum of these products
-pub sum_sites_are : (prods : List Prod) → value_sites (roll-Value (record { prods = prods })) ≡ sum_by prod_sites prods
-sum_sites_are prods = value_sites_are (roll-Value (record { prods = prods })) ∙ ap (λ value. sum_by prod_sites value.prods) (out-roll-Value (record { prods = prods }))

@@ -1,18 +1,10 @@
 -- Terms and atoms, told of the parts of the raw tree as lists.
-use Rattle.std.proofs.Common.{◌≡◌, ℕ, List, ◌++◌, flat_map, Option, None, Some, is_some, refl, ap, ◌∙◌, sym}
+use Rattle.spf_kernel.proofs.Common.{◌≡◌, ℕ, List, ◌++◌, flat_map, Option, None, Some, is_some, refl, ap, ◌∙◌, sym, Term, roll-Term, Mono, Token, Scope, RawIx, RawIx', Row_of-RawStep, end_of-RawStep, more_of-RawStep, items-the_row-RawStep, items_shown-the_row-RawStep-1, RawStep, RawAtom, RawAtom', end_of-RawIx, more_of-RawIx, RawAtom-at-None', RawAtom-at-Some', text_of, variables_in, Names, constant_of, variable_of, table_of, bare_atom, term_of, more_monos, monos_of, atom_of}
 use Rattle.spf_base.specs.Wrap.{wrap}
-use Rattle.spf_term.specs.declared.term.Term.{Term, roll-Term}
-use Rattle.spf_term.specs.declared.term.Mono.{Mono}
 use Rattle.spf_term.specs.declared.term.Atom.{Atom}
 use Rattle.spf_term.specs.declared.term.Atom.TheVariants as atom
-use Rattle.spf_lex.specs.declared.cursor.Token.{Token}
-use Rattle.spf_kernel.specs.declared.note.Scope.{Scope}
-use Rattle.spf_kernel.specs.declared.raw.RawIx.{RawIx, out-RawIx, RawIx', Row_of-RawStep, end_of-RawStep, more_of-RawStep, items-the_row-RawStep, items_shown-the_row-RawStep-1}
-use Rattle.spf_kernel.specs.declared.raw.RawStep.{RawStep}
-use Rattle.spf_kernel.specs.declared.raw.RawAtom.{RawAtom, out-RawAtom, RawAtom', end_of-RawIx, more_of-RawIx, RawAtom-at-None', RawAtom-at-Some'}
-use Rattle.spf_kernel.specs.Facts.{text_of, variables_in}
-use Rattle.spf_kernel.specs.Names.{Names}
-use Rattle.spf_kernel.specs.Resolved.{constant_of, variable_of, table_of, bare_atom, term_of, more_monos, monos_of, atom_of}
+use Rattle.spf_kernel.specs.declared.raw.RawIx.{out-RawIx}
+use Rattle.spf_kernel.specs.declared.raw.RawAtom.{out-RawAtom}
 
 module _ (texts : List (List ℕ)) (names : Names) (scope : Scope) where
   abbrev pub step_monos : RawStep → List Mono

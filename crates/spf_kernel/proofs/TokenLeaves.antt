@@ -1,13 +1,10 @@
 -- The tokens of a text are leaves: names have the texts of names, and numbers aren't too large.
-use Rattle.std.proofs.Common.{◌≡◌, ℕ, ◌≤◌, ◌^◌, Bool, true, false, List, [], ◌∷◌, Some, None, get_or, length, not, ◌==◌, refl, arith}
+use Rattle.spf_kernel.proofs.Common.{◌≡◌, ℕ, ◌≤◌, ◌^◌, Bool, true, false, List, [], ◌∷◌, Some, None, get_or, length, not, ◌==◌, refl, arith, if◌then◌else◌, nat_le, ◌&&◌, bundle_words, IsTokenText}
 use Rattle.std.specs.List.{list_all}
 use Rattle.std.specs.Char.{is_ascii_digit, is_ascii_alphabetic}
-use Rattle.std.specs.Prelude.{if◌then◌else◌, nat_le, ◌&&◌}
 use Rattle.std.proofs.lemmas.Bool.{leb-true}
-use Rattle.spf_lex.specs.BundleWords.{bundle_words}
 use Rattle.spf_lex.specs.Language.{kind_of, lexed, value_in}
 use Rattle.spf_lex.specs.Lexeme.{lexeme_of, lexeme_by, is_numeral, value_of}
-use Rattle.spf_lex.specs.Tokens.{IsTokenText}
 use Rattle.spf_kernel.proofs.Written.{IsLeaf}
 
 last_of : (a b : Bool) → a && b ≡ true → b ≡ true

@@ -1,23 +1,12 @@
 -- Where no rule is broken, each fact keeps each rule behind those before: the declared names are apart, and at most 64 of a sort.
-use Rattle.std.proofs.Common.{◌≡◌, ℕ, ◌+◌, ◌≤◌, ◌<◌, get_or, Bool, true, false, cond, nat_le, ◌||◌, ◌&&◌, List, [], ◌∷◌, ◌++◌, length, filter, take, slice_get, Option, Some, refl, ap, sym, ◌∙◌, true≢false, append_assoc, append-nil, subst, ◌⊎◌, inl, inr, ⊎_elim, arith}
-use Rattle.std.specs.Prelude.{⊤}
+use Rattle.spf_kernel.proofs.Common.{◌≡◌, ℕ, ◌+◌, ◌≤◌, ◌<◌, get_or, Bool, true, false, nat_le, ◌||◌, ◌&&◌, List, [], ◌∷◌, ◌++◌, length, filter, take, slice_get, Option, Some, refl, ap, sym, ◌∙◌, true≢false, append_assoc, append-nil, subst, ◌⊎◌, inl, inr, ⊎_elim, arith, ⊤, nat_tests, length-map, map-append, map_push, take_all, take_more, bytes_eq, insert_key, Before, Note, Says, Declared, Variable, Breach, IsFirst, Fact, fact_of, facts_of, names_of, IsUnbroken, count_that, is_data, is_in_scope, is_loop, is_naming, is_param, is_site, is_table, names_that, is_known, declares}
+use Rattle.std.proofs.Common.{cond}
 use Rattle.std.proofs.lemmas.Bool.{false_from_ne_true}
-use Rattle.std.proofs.lemmas.Bool.Decides.{nat_tests}
-use Rattle.std.proofs.lemmas.List.{length-map, map-append, map_push, take_all, take_more}
 use Rattle.std.proofs.lemmas.List.Sums.{length-filter}
-use Rattle.std.specs.Str.{bytes_eq}
-use Rattle.indexmap.specs.IndexSet.{insert_key}
-use Rattle.spf_kernel.specs.declared.before.Before.{Before}
-use Rattle.spf_kernel.specs.declared.note.Note.{Note}
-use Rattle.spf_kernel.specs.declared.note.Says.{Says}
-use Rattle.spf_kernel.specs.declared.note.Says.TheVariants.{Declared, Variable}
 use Rattle.spf_kernel.specs.declared.note.Sort.TheVariants.{Param, Index, Data}
-use Rattle.spf_kernel.specs.declared.rules.Breach.{Breach}
 use Rattle.spf_kernel.specs.Before.{before_of, once}
-use Rattle.spf_kernel.specs.Checked.{IsFirst}
-use Rattle.spf_kernel.specs.Facts.{Fact, fact_of, facts_of}
-use Rattle.spf_kernel.specs.Names.{IsShort, names_of}
-use Rattle.spf_kernel.specs.Rules.{IsUnbroken, count_that, is_data, is_in_scope, is_loop, is_naming, is_param, is_site, is_table, late_name, names_that, rules, is_known, declares}
+use Rattle.spf_kernel.specs.Names.{IsShort}
+use Rattle.spf_kernel.specs.Rules.{late_name, rules}
 use Rattle.spf_kernel.proofs.Adding.{names_more, once_names_more, with_name}
 use Rattle.spf_kernel.proofs.Counting.{count_more, more}
 
@@ -91,13 +80,22 @@ few_more before fact keeps few =
 pub few : (facts : List Fact) → AreSound [] facts → IsFew facts
 few facts sound = grown IsFew few_more [] facts (record { params = omega arith; arrays = omega arith }) sound
 
+-- what a rule of its own bounds
+at_most : (limit : ℕ) (test : Says → Bool) → ((before : List Fact) (fact : Fact) → Keeps before fact → test fact.says && nat_le limit (count_that test before) ≡ false)
+    → (facts : List Fact) → AreSound [] facts → count_that test facts ≤ limit
+at_most limit test rule facts sound = grown (λ seen. count_that test seen ≤ limit) step [] facts (omega arith) sound where
+  step : (before : List Fact) (fact : Fact) → Keeps before fact → count_that test before ≤ limit → count_that test (before ++ fact ∷ []) ≤ limit
+  step before fact keeps few = rw (count_more test before fact) (one_more limit (test fact.says) (count_that test before) (rule before fact keeps) few)
+
+-- at most 32 loops
+pub few_loops : (facts : List Fact) → AreSound [] facts → count_that is_loop facts ≤ 32
+few_loops = at_most 32 is_loop (λ before fact keeps. keeps 6 _ refl)
+
 -- at most 256 names with brackets stand in the loops
 pub few_sites : (facts : List Fact) → AreSound [] facts → count_that is_site facts ≤ 256
-few_sites facts sound = grown (λ seen. count_that is_site seen ≤ 256) step [] facts (omega arith) sound where
-  step : (before : List Fact) (fact : Fact) → Keeps before fact → count_that is_site before ≤ 256 → count_that is_site (before ++ fact ∷ []) ≤ 256
-  step before fact keeps few = rw (count_more is_site before fact) (one_more 256 (is_site fact.says) (count_that is_site before) (keeps 10 _ refl) few)
+few_sites = at_most 256 is_site (λ before fact keeps. keeps 10 _ refl)
 
-how_many : (test : Says → Bool) (facts : List Fact) → length (names_that test facts) ≡ count_that test facts
+pub how_many : (test : Says → Bool) (facts : List Fact) → length (names_that test facts) ≡ count_that test facts
 how_many test facts = length-map (filter (λ (fact : Fact). test fact.says) facts) (λ (fact : Fact). fact.name) ∙ length-filter (λ (fact : Fact). test fact.says) facts
 
 -- ---- names that are apart

@@ -1,16 +1,9 @@
 -- Values and factors, told of the parts of the raw tree as lists.
-use Rattle.std.proofs.Common.{◌≡◌, ℕ, List, ◌∷◌, map, refl, ap, ◌∙◌, sym}
-use Rattle.spf_kernel.specs.declared.note.Scope.{Scope}
-use Rattle.spf_kernel.specs.declared.raw.RawValue.{RawValue, out-RawValue, RawValue', Row_of-RawFactor, end_of-RawFactor, more_of-RawFactor, items-the_row-RawFactor, items_shown-the_row-RawFactor-1, Row_of-RawSummand, end_of-RawSummand, more_of-RawSummand, items-the_row-RawSummand, items_shown-the_row-RawSummand-2}
-use Rattle.spf_kernel.specs.declared.raw.RawSummand.{RawSummand}
-use Rattle.spf_kernel.specs.declared.raw.RawFactor.{RawFactor, Paren}
-use Rattle.spf_kernel.specs.declared.tree.Value.{roll-Value}
-use Rattle.spf_kernel.specs.declared.tree.Prod.{Prod}
-use Rattle.spf_kernel.specs.declared.tree.Factor.{Factor}
+use Rattle.spf_kernel.proofs.Common.{◌≡◌, ℕ, List, ◌∷◌, map, refl, ap, ◌∙◌, sym, Scope, RawValue, RawValue', Row_of-RawFactor, end_of-RawFactor, more_of-RawFactor, items-the_row-RawFactor, items_shown-the_row-RawFactor-1, Row_of-RawSummand, end_of-RawSummand, more_of-RawSummand, items-the_row-RawSummand, items_shown-the_row-RawSummand-2, RawSummand, roll-Value, Prod, Factor, Names, product, more_factors, more_prods, factor_of, inside}
+use Rattle.spf_kernel.specs.declared.raw.RawValue.{out-RawValue}
+use Rattle.spf_kernel.specs.declared.raw.RawFactor.{Paren}
 use Rattle.spf_kernel.specs.declared.tree.Factor.TheVariants as factor
-use Rattle.spf_kernel.specs.Names.{Names}
-use Rattle.spf_kernel.specs.Resolved.{product, value_of, more_factors, more_prods, factor_of}
-use Rattle.spf_kernel.specs.Scopes.{inside}
+use Rattle.spf_kernel.specs.Resolved.{value_of}
 
 module _ (texts : List (List ℕ)) (names : Names) (scope : Scope) where
   abbrev pub summand_of : RawSummand → Prod

@@ -1,22 +1,10 @@
 -- The printed words of a part of a tree, as tokens of the printed text: they spell the part again, with the same facts.
-use Rattle.std.proofs.Common.{◌≡◌, ℕ, Bool, ◌≤◌, ◌^◌, List, [], ◌++◌, get_or, refl, ap, sym, ◌∙◌}
-use Rattle.std.proofs.lemmas.List.{map-append}
-use Rattle.spf_lex.specs.Derivation.{Derivation}
-use Rattle.spf_lex.specs.Grammar.{Grammar}
-use Rattle.spf_lex.specs.BundleWords.{bundle_words, same_kind}
-use Rattle.spf_lex.specs.Language.{Lexed, lexed}
-use Rattle.spf_lex.specs.Production.{Production}
-use Rattle.spf_lex.specs.declared.cursor.Token.{Token}
-use Rattle.spf_lex.specs.declared.kind.Kind.{Kind}
+use Rattle.spf_kernel.proofs.Common.{◌≡◌, ℕ, Bool, ◌≤◌, ◌^◌, List, [], ◌++◌, get_or, refl, ap, sym, ◌∙◌, map-append, Derivation, Grammar, bundle_words, same_kind, Lexed, Production, Token, Kind, Holds, in_words, Note, Scope, TreeNames, Fact, fact_of, facts_of, text_of, variables_in, Names, names_of}
+use Rattle.spf_lex.specs.Language.{lexed}
 use Rattle.spf_lex.specs.declared.kind.Kind.TheVariants as kind
 use Rattle.spf_lex.proofs.FixedWords.{IsFixed}
 use Rattle.spf_lex.proofs.Leaves.{Leaves}
-use Rattle.spf_lex.proofs.PrintedWords.{IsText, Holds, in_words}
-use Rattle.spf_kernel.specs.declared.note.Note.{Note}
-use Rattle.spf_kernel.specs.declared.note.Scope.{Scope}
-use Rattle.spf_kernel.specs.declared.tree_names.TreeNames.{TreeNames}
-use Rattle.spf_kernel.specs.Facts.{Fact, fact_of, facts_of, text_of, variables_in}
-use Rattle.spf_kernel.specs.Names.{Names, names_of}
+use Rattle.spf_lex.proofs.PrintedWords.{IsText}
 use Rattle.spf_kernel.proofs.Counting.{more}
 use Rattle.spf_kernel.proofs.NamedUses.{AreFitting}
 

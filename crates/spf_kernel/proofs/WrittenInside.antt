@@ -1,30 +1,11 @@
 -- The printed words of a part of an index expression, as tokens of the printed text, and the sums that they make.
-use Rattle.std.proofs.Common.{◌≡◌, ℕ, ℤ, pos, ◌+ℤ◌, ◌+◌, ◌≤◌, Bool, List, [], ◌∷◌, ◌++◌, length, length-append, map, flat_map, fold, is_some, refl, ap, sym, ◌∙◌, arith, append_assoc}
-use Rattle.std.specs.List.{AllByRecursion}
-use Rattle.std.proofs.lemmas.Int.{ints}
+use Rattle.spf_kernel.proofs.Common.{◌≡◌, ℕ, ℤ, pos, ◌+ℤ◌, ◌+◌, ◌≤◌, Bool, List, [], ◌∷◌, ◌++◌, length, length-append, map, flat_map, fold, is_some, refl, ap, sym, ◌∙◌, arith, append_assoc, AllByRecursion, ints, Derivation, Lexed, Kind, Holds, holds_both, behind_part, none_more, one_more, in_words, Term, roll-Term, Mono, Token, Spot, Scope, RawIx, RawStep, RawAtom, RawMono, Fact, facts_of, Names, ix_notes, mono_notes, ix_monomials, mono_monomials, sign_word, lead_words, term_words, alone_of, constant_of, monos_of, term_of}
 use Rattle.spf_base.specs.Wrap.{wrap}
-use Rattle.spf_lex.specs.Derivation.{Derivation}
 use Rattle.spf_lex.specs.Grammar.{Many}
-use Rattle.spf_lex.specs.Language.{Lexed}
-use Rattle.spf_lex.specs.declared.kind.Kind.{Kind}
 use Rattle.spf_lex.proofs.Leaves.{Leaves}
-use Rattle.spf_lex.proofs.PrintedWords.{Holds, holds_both, behind_part, none_more, one_more, in_words}
-use Rattle.spf_term.specs.declared.term.Term.{Term, roll-Term}
-use Rattle.spf_term.specs.declared.term.Mono.{Mono}
-use Rattle.spf_lex.specs.declared.cursor.Token.{Token}
-use Rattle.spf_kernel.specs.declared.note.Spot.{Spot}
-use Rattle.spf_kernel.specs.declared.note.Scope.{Scope}
-use Rattle.spf_kernel.specs.declared.raw.RawIx.{RawIx, roll-RawIx, out-roll-RawIx}
-use Rattle.spf_kernel.specs.declared.raw.RawStep.{RawStep}
-use Rattle.spf_kernel.specs.declared.raw.RawAtom.{RawAtom}
-use Rattle.spf_kernel.specs.declared.raw.RawMono.{RawMono}
+use Rattle.spf_kernel.specs.declared.raw.RawIx.{roll-RawIx, out-roll-RawIx}
 use Rattle.spf_kernel.specs.Productions as syntax
-use Rattle.spf_kernel.specs.Facts.{Fact, facts_of}
-use Rattle.spf_kernel.specs.Names.{Names}
-use Rattle.spf_kernel.specs.Notes.{ix_notes, mono_notes, ix_monomials, mono_monomials}
-use Rattle.spf_kernel.specs.Printed.{sign_word, lead_words, term_words}
 use Rattle.spf_kernel.specs.Productions.{Syntax}
-use Rattle.spf_kernel.specs.Resolved.{alone_of, constant_of, monos_of, term_of}
 use Rattle.spf_kernel.proofs.NoteEquations.{step_notes, ix_notes_are, ix_monomials_are, step_monomials}
 use Rattle.spf_kernel.proofs.TermEquations.{step_monos, term_is}
 use Rattle.spf_kernel.proofs.Written.{in_scope, AreText, IsLeaf, Context, names_in, Meaning, source, AreFit, facts_append}

@@ -1,28 +1,13 @@
 -- Where the atoms are written again, so are the monomials and the sums of them.
-use Rattle.std.proofs.Common.{suc, ◌≡◌, ℕ, ℤ, pos, ◌+◌, ◌≤◌, ◌==◌, Bool, true, false, if◌then◌else◌, List, [], ◌∷◌, ◌++◌, map, flat_map, is_some, refl, ap, ◌∙◌, subst, arith, inl, inr, codes, decimal, unsigned_abs, length, sym}
-use Rattle.std.specs.Int.{is_negative}
-use Rattle.std.specs.List.{AllByRecursion}
-use Rattle.std.proofs.lemmas.Bool.Decides.{nat_tests}
+use Rattle.spf_kernel.proofs.Common.{suc, ◌≡◌, ℕ, ℤ, pos, ◌+◌, ◌≤◌, ◌==◌, Bool, true, false, if◌then◌else◌, List, [], ◌∷◌, ◌++◌, map, flat_map, is_some, refl, ap, ◌∙◌, subst, arith, inl, inr, codes, decimal, unsigned_abs, length, sym, is_negative, AllByRecursion, nat_tests, bundle_words, Derivation, Lexed, Kind, symbol_fixed, split_each, Holds, behind_word, behind_part, on_left, on_right, Mono, Note, Spot, RawAtom, Fact, facts_of, mono_notes, atom_notes, atom_monomials, number_notes, mono_words, atom_words, atom_of}
 use Rattle.spf_base.specs.Wrap.{wrap}
-use Rattle.spf_lex.specs.BundleWords.{bundle_words}
-use Rattle.spf_lex.specs.Derivation.{Derivation}
-use Rattle.spf_lex.specs.Language.{Lexed}
-use Rattle.spf_lex.specs.declared.kind.Kind.{Kind}
 use Rattle.spf_lex.specs.declared.kind.Kind.TheVariants as kind
-use Rattle.spf_lex.proofs.FixedWords.{symbol_fixed}
-use Rattle.spf_lex.proofs.Leaves.{Leaves, split_each}
-use Rattle.spf_lex.proofs.PrintedWords.{Holds, behind_word, behind_part, on_left, on_right}
+use Rattle.spf_lex.proofs.Leaves.{Leaves}
 use Rattle.spf_term.specs.declared.term.Atom.{Atom}
-use Rattle.spf_term.specs.declared.term.Mono.{Mono, roll-Mono}
-use Rattle.spf_kernel.specs.declared.note.Note.{Note}
-use Rattle.spf_kernel.specs.declared.note.Spot.{Spot}
-use Rattle.spf_kernel.specs.declared.raw.RawAtom.{RawAtom}
+use Rattle.spf_term.specs.declared.term.Mono.{roll-Mono}
 use Rattle.spf_kernel.specs.Productions as syntax
-use Rattle.spf_kernel.specs.Facts.{Fact, facts_of}
-use Rattle.spf_kernel.specs.Notes.{mono_notes, atom_notes, atom_monomials, number_notes}
-use Rattle.spf_kernel.specs.Printed.{mono_words, atom_words}
 use Rattle.spf_kernel.specs.Productions.{Syntax}
-use Rattle.spf_kernel.specs.Resolved.{signed, atom_of}
+use Rattle.spf_kernel.specs.Resolved.{signed}
 use Rattle.spf_kernel.proofs.NamedUses.{IsFitting}
 use Rattle.spf_kernel.proofs.NoteEquations.{step_notes, number_fits, number_within}
 use Rattle.spf_kernel.proofs.PrintedConstants.{wrap_small, wrap_twice, signed_back, signed_size}

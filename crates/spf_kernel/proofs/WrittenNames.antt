@@ -1,14 +1,6 @@
 -- A name that is used is printed as its own text, and that text means the same name again.
-use Rattle.std.proofs.Common.{◌≡◌, ℕ, true, false, List, [], ◌∷◌, Option, None, Some, refl, ap, ◌∙◌}
+use Rattle.spf_kernel.proofs.Common.{◌≡◌, ℕ, true, false, List, [], ◌∷◌, Option, None, Some, refl, ap, ◌∙◌, Token, Spot, text_of, variables_in, Names, number_of, atom_words, variable_of, table_of, bare_atom, takes_data, fits, name_at}
 use Rattle.spf_term.specs.declared.term.Atom.TheVariants as atom
-use Rattle.spf_lex.specs.declared.cursor.Token.{Token}
-use Rattle.spf_kernel.specs.declared.note.Spot.{Spot}
-use Rattle.spf_kernel.specs.Facts.{text_of, variables_in}
-use Rattle.spf_kernel.specs.Names.{Names, number_of}
-use Rattle.spf_kernel.specs.Printed.{atom_words}
-use Rattle.spf_kernel.specs.Resolved.{variable_of, table_of, bare_atom}
-use Rattle.spf_kernel.specs.Rules.{takes_data, fits}
-use Rattle.spf_kernel.specs.TreeNames.{name_at}
 use Rattle.spf_kernel.proofs.FittingNames.{IsBare, bare_fits, table_fits, variable_named}
 use Rattle.spf_kernel.proofs.Written.{Context, names_in, shown_in, vars_in}
 

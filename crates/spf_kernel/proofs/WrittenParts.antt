@@ -1,15 +1,9 @@
 -- What is written again where its parts are: words in front and behind, two parts, choices, lists, and what is made of a part.
-use Rattle.std.proofs.Common.{◌≡◌, ℕ, ◌+◌, Bool, true, false, ◌&&◌, List, [], ◌∷◌, ◌++◌, length, map, flat_map, refl, ap, sym, subst, inl, inr}
-use Rattle.spf_lex.specs.BundleWords.{same_kind}
-use Rattle.spf_lex.specs.Production.{Production, ◌>>=◌, ◌<$>◌, ◌or◌, production, last, token, many, behind, between, and_more, separated}
-use Rattle.spf_lex.specs.declared.cursor.Token.{Token}
-use Rattle.spf_lex.specs.declared.kind.Kind.{Kind}
+use Rattle.spf_kernel.proofs.Common.{◌≡◌, ℕ, ◌+◌, Bool, true, false, ◌&&◌, List, [], ◌∷◌, ◌++◌, length, map, flat_map, refl, ap, sym, subst, inl, inr, same_kind, Production, ◌<$>◌, ◌or◌, token, many, and_more, Token, Kind, split_each, Holds, holds_both, word_alone, behind_word, behind_part, on_left, on_right, none_more, one_more, in_words, Note, facts_of, text_of}
+use Rattle.spf_lex.specs.Production.{◌>>=◌, production, last, behind, separated}
 use Rattle.spf_lex.specs.declared.kind.Kind.TheVariants as kind
-use Rattle.spf_lex.proofs.Leaves.{Leaves, split_each}
-use Rattle.spf_lex.proofs.PrintedWords.{Holds, holds_both, word_alone, behind_word, behind_part, on_left, on_right, none_more, one_more, in_words}
-use Rattle.spf_kernel.specs.declared.note.Note.{Note}
+use Rattle.spf_lex.proofs.Leaves.{Leaves}
 use Rattle.spf_kernel.specs.Printed as printed
-use Rattle.spf_kernel.specs.Facts.{facts_of, text_of}
 use Rattle.spf_kernel.specs.Productions.{Syntax}
 use Rattle.spf_kernel.proofs.Counting.{more}
 use Rattle.spf_kernel.proofs.NamedUses.{IsFitting}
@@ -128,11 +122,6 @@ module _ {s : Source} where
       let front = one d leaves.0 fit at (holds_both s.written at words (word ∷ []) holds).0 in
       record { text = behind_part front.text (word_alone (at + length words) fixed); means = front.means; same = front.same }
 
-  pub between_written : {R A : Type 0} {empty : Bool} {k l : Kind} {first last : List ℕ} (p : Production same_kind empty R) (of : Meaning R A) → IsFixedWord k first → IsFixedWord l last → AreWritten s p of
-      → AreWritten s (between k l p) (worded of (λ x. first ∷ (of.words x ++ last ∷ [])))
-  between_written {l = l} {last = last} p of opening closing one =
-      led_written (ended p l) (worded of (λ x. of.words x ++ last ∷ [])) opening (ended_written p of closing one)
-
   -- one production or the other
   pub either_written : {R A : Type 0} {empty : Bool} (p : Syntax R) (q : Production same_kind empty R) (of : Meaning R A) → AreWritten s p of → AreWritten s q of → AreWritten s (p or q) of
   unfolding Leaves
@@ -214,8 +203,7 @@ module _ {s : Source} where
   ended_by {k = k} {word} fixed x = record { form = ended x.form k; of = worded x.of (λ a. x.of.words a ++ word ∷ []); again = ended_written x.form x.of fixed x.again }
 
   abbrev pub enclosed_by : {R A : Type 0} {empty : Bool} {k l : Kind} {first last : List ℕ} → IsFixedWord k first → IsFixedWord l last → Written s empty R A → Written s false R A
-  enclosed_by {k = k} {l} {first} {last} opening closing x =
-      record { form = between k l x.form; of = worded x.of (λ a. first ∷ (x.of.words a ++ last ∷ [])); again = between_written x.form x.of opening closing x.again }
+  enclosed_by opening closing x = led_by opening (ended_by closing x)
 
   abbrev pub repeated : {R A : Type 0} → Written s false R A → Written s true (List R) (List A)
   repeated x = record { form = many x.form; of = each_of x.of (flat_map x.of.words); again = many_written x.form x.of x.again }

@@ -1,17 +1,13 @@
 -- Signs are read again from the words that they are printed as.
-use Rattle.std.proofs.Common.{◌≡◌, ℕ, ◌≤◌, ◌^◌, ◌==◌, Bool, true, false, if◌then◌else◌, List, [], ◌∷◌, is_some, decimal, codes, refl}
-use Rattle.spf_lex.specs.BundleWords.{bundle_words, same_kind}
-use Rattle.spf_lex.specs.Production.{Production, token, optional, flag, one_of}
-use Rattle.spf_lex.specs.declared.cursor.Token.{Token}
+use Rattle.spf_kernel.proofs.Common.{◌≡◌, ℕ, ◌≤◌, ◌^◌, ◌==◌, Bool, true, false, if◌then◌else◌, List, [], ◌∷◌, is_some, decimal, codes, refl, bundle_words, same_kind, Production, token, flag, one_of, Token, small_fixed, symbol_fixed, word_alone, on_left, on_right, Trend, sign_word, lead_words, becomes_word, compare_word, trend_words}
+use Rattle.spf_lex.specs.Production.{optional}
 use Rattle.spf_lex.specs.declared.kind.Kind.TheVariants as kind
-use Rattle.spf_lex.proofs.FixedWords.{small_fixed, symbol_fixed, number_fixed, number_value}
-use Rattle.spf_lex.proofs.PrintedWords.{no_words, word_alone, on_left, on_right}
+use Rattle.spf_lex.proofs.FixedWords.{number_fixed, number_value}
+use Rattle.spf_lex.proofs.PrintedWords.{no_words}
 use Rattle.spf_kernel.specs.declared.tree.Compare.{Compare}
 use Rattle.spf_kernel.specs.declared.tree.Compare.TheVariants.{Equal, Unequal, Less, AtMost, Greater, AtLeast}
-use Rattle.spf_kernel.specs.declared.tree.Trend.{Trend}
 use Rattle.spf_kernel.specs.declared.tree.Trend.TheVariants.{Free, Monotone, Strict}
 use Rattle.spf_kernel.specs.Productions as syntax
-use Rattle.spf_kernel.specs.Printed.{sign_word, lead_words, becomes_word, compare_word, trend_words}
 use Rattle.spf_kernel.specs.Resolved.{becomes}
 use Rattle.spf_kernel.proofs.Written.{AreText, IsFixedWord}
 

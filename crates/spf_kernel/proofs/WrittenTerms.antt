@@ -1,31 +1,13 @@
 -- The printed words of an index expression, as tokens of the printed text, mean it again.
-use Rattle.std.proofs.Common.{◌≡◌, ℕ, zero, suc, ◌+◌, true, false, List, [], ◌∷◌, ◌++◌, Option, None, Some, is_some, refl, ap, sym, ◌∙◌, subst, arith, inl, inr, codes, length}
-use Rattle.spf_lex.specs.BundleWords.{bundle_words}
-use Rattle.spf_lex.specs.Language.{Lexed}
-use Rattle.spf_lex.specs.Grammar.{Grammar, One, Then}
-use Rattle.spf_lex.specs.declared.cursor.Token.{Token}
-use Rattle.spf_lex.specs.declared.kind.Kind.{Kind}
+use Rattle.spf_kernel.proofs.Common.{◌≡◌, ℕ, zero, suc, ◌+◌, true, false, List, [], ◌∷◌, ◌++◌, Option, None, Some, is_some, refl, ap, sym, ◌∙◌, subst, arith, inl, inr, codes, length, bundle_words, Lexed, Grammar, Token, Kind, symbol_fixed, split_each, Holds, stands_inside, word_alone, behind_word, on_left, absent, Term, Used, Note, Spot, Scope, RawIx, RawAtom, out-roll-RawAtom, facts_of, text_of, fact_with, Names, note, ix_notes, atom_notes, expression_notes, atom_monomials, excess_notes, ix_monomials, monomial_limit, atom_words, term_words, named, atom_of, term_of, takes_data}
+use Rattle.spf_lex.specs.Grammar.{One, Then}
 use Rattle.spf_lex.specs.declared.kind.Kind.TheVariants as kind
-use Rattle.spf_lex.proofs.FixedWords.{symbol_fixed}
-use Rattle.spf_lex.proofs.Leaves.{Leaves, split_each}
-use Rattle.spf_lex.proofs.PrintedWords.{Holds, stands_inside, word_alone, behind_word, on_left, absent, enclosed}
+use Rattle.spf_lex.proofs.Leaves.{Leaves}
+use Rattle.spf_lex.proofs.PrintedWords.{enclosed}
 use Rattle.spf_term.specs.declared.term.Atom.{Atom}
 use Rattle.spf_term.specs.declared.term.Atom.TheVariants as atom_is
-use Rattle.spf_term.specs.declared.term.Term.{Term}
-use Rattle.spf_kernel.specs.declared.note.Says.TheVariants.{Used}
-use Rattle.spf_kernel.specs.declared.note.Note.{Note}
-use Rattle.spf_kernel.specs.declared.note.Spot.{Spot}
-use Rattle.spf_kernel.specs.declared.note.Scope.{Scope}
-use Rattle.spf_kernel.specs.declared.raw.RawIx.{RawIx}
-use Rattle.spf_kernel.specs.declared.raw.RawAtom.{RawAtom, out-roll-RawAtom}
 use Rattle.spf_kernel.specs.Productions as syntax
-use Rattle.spf_kernel.specs.Facts.{facts_of, text_of, fact_with}
-use Rattle.spf_kernel.specs.Names.{Names}
-use Rattle.spf_kernel.specs.Notes.{note, ix_notes, atom_notes, expression_notes, atom_monomials, excess_notes, ix_monomials, monomial_limit}
-use Rattle.spf_kernel.specs.Printed.{atom_words, term_words}
-use Rattle.spf_kernel.specs.Productions.{Syntax, named}
-use Rattle.spf_kernel.specs.Resolved.{atom_of, term_of}
-use Rattle.spf_kernel.specs.Rules.{takes_data}
+use Rattle.spf_kernel.specs.Productions.{Syntax}
 use Rattle.spf_kernel.proofs.NamedUses.{IsFitting}
 use Rattle.spf_kernel.proofs.NoteEquations.{at_notes, atom_notes_are, at_monomials, atom_monomials_are, few_monomials, none_in_excess}
 use Rattle.spf_kernel.proofs.TermEquations.{atom_at, atom_is_at}

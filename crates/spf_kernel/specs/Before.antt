@@ -2,7 +2,7 @@
 use Rattle.std.specs.Prelude.{ℕ, ◌≡◌, List, [], Bool, fold}
 use Rattle.std.specs.Str.{bytes_eq}
 use Rattle.indexmap.specs.IndexSet.{insert_key}
-use Rattle.spf_kernel.specs.declared.note.Note.{Note}
+use Rattle.spf_kernel.specs.Types.{Note}
 use Rattle.spf_kernel.specs.declared.before.Before.{Before}
 use Rattle.spf_kernel.specs.Counts.{counts_of}
 use Rattle.spf_kernel.specs.Facts.{Fact, fact_of}

@@ -1,7 +1,7 @@
 -- What the rules say of the notes of a kernel.
 use Rattle.std.specs.Prelude.{ℕ, ◌≡◌, ◌+◌, ◌<◌, ◌⊎◌, Bool, List, position, Option, None, Some, Result, Ok, Err}
 use Rattle.std.specs.Option.{option_map}
-use Rattle.spf_kernel.specs.declared.note.Note.{Note}
+use Rattle.spf_kernel.specs.Types.{Note}
 use Rattle.spf_kernel.specs.declared.rules.Breach.{Breach}
 use Rattle.spf_kernel.specs.Facts.{Fact, facts_of}
 use Rattle.spf_kernel.specs.Names.{Names, names_of}

@@ -1,6 +1,6 @@
 -- How many facts have the roles that the limits are about.
 use Rattle.std.specs.Prelude.{ℕ, ◌≡◌, ◌<◌, Bool, List}
-use Rattle.spf_kernel.specs.declared.note.Note.{Note}
+use Rattle.spf_kernel.specs.Types.{Note}
 use Rattle.spf_kernel.specs.declared.counts.Counts.{Counts}
 use Rattle.spf_kernel.specs.Facts.{Fact, fact_of}
 use Rattle.spf_kernel.specs.Rules.{is_param, is_table, is_data, is_loop, is_target, is_site, is_factor, is_guard, is_condition, count_that, since}

@@ -1,10 +1,7 @@
 -- What the rules read: a role, the name that has it, and the names of the variables that are in scope there.
 use Rattle.std.specs.Prelude.{ℕ, Bool, true, false, if◌then◌else◌, List, [], ◌∷◌, map, get_or}
-use Rattle.spf_lex.specs.declared.cursor.Token.{Token}
-use Rattle.spf_kernel.specs.declared.note.Note.{Note}
-use Rattle.spf_kernel.specs.declared.note.Says.{Says}
+use Rattle.spf_kernel.specs.Types.{Token, Note, Says, Scope}
 use Rattle.spf_kernel.specs.declared.note.Says.TheVariants.{Declared, Variable, Used}
-use Rattle.spf_kernel.specs.declared.note.Scope.{Scope}
 use Rattle.spf_kernel.specs.declared.note.Scope.TheVariants.{Nothing, Within, Inside}
 
 pub record Fact : Type 0 where

@@ -2,8 +2,7 @@
 use Rattle.std.specs.Prelude.{List}
 use Rattle.spf_lex.specs.Language.{Lexed}
 use Rattle.spf_lex.specs.Standing.{Yields}
-use Rattle.spf_lex.specs.declared.kind.Kind.{Kind}
-use Rattle.spf_kernel.specs.declared.raw.RawKernel.{RawKernel}
+use Rattle.spf_kernel.specs.Types.{Kind, RawKernel}
 use Rattle.spf_kernel.specs.Productions.{kernel}
 
 -- the tokens are a kernel with this tree: the tree of a derivation that they spell

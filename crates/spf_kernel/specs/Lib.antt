@@ -1,4 +1,6 @@
 pub mod Before
+pub mod BodySites
+pub mod Bounded
 pub mod Checked
 pub mod Counts
 pub mod Facts
@@ -15,3 +17,4 @@ pub mod Scopes
 pub mod Sites
 pub mod Stands
 pub mod TreeNames
+pub mod Types

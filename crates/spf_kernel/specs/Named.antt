@@ -1,22 +1,11 @@
 -- Each number in a tree names something declared, or a variable in scope.
 use Rattle.std.specs.Prelude.{ℕ, ◌<◌, List, length, All, ⊤}
-use Rattle.spf_term.specs.declared.term.Term.{Term, Term', Row_of-Mono, end_of-Mono, more_of-Mono}
-use Rattle.spf_term.specs.declared.term.Atom.{Atom, Var, Param, App}
-use Rattle.spf_kernel.specs.declared.tree.Value.{Value, Value', Row_of-Prod, end_of-Prod, more_of-Prod, Row_of-Factor, end_of-Factor, more_of-Factor}
-use Rattle.spf_kernel.specs.declared.tree.Factor.{Factor}
+use Rattle.spf_kernel.specs.Types.{Term, Term', Row_of-Mono, end_of-Mono, more_of-Mono, Var, Param, App, Value, Value', Row_of-Prod, end_of-Prod, more_of-Prod, Row_of-Factor, end_of-Factor, more_of-Factor, Factor, Assign, Cond, Guard, Part, Item, Loop, DataDecl, Decl, Tree}
+use Rattle.spf_term.specs.declared.term.Atom.{Atom}
 use Rattle.spf_kernel.specs.declared.tree.Factor.TheVariants as factor_is
-use Rattle.spf_kernel.specs.declared.tree.Assign.{Assign}
-use Rattle.spf_kernel.specs.declared.tree.Cond.{Cond}
-use Rattle.spf_kernel.specs.declared.tree.Guard.{Guard}
-use Rattle.spf_kernel.specs.declared.tree.Part.{Part}
 use Rattle.spf_kernel.specs.declared.tree.Part.TheVariants as part_is
-use Rattle.spf_kernel.specs.declared.tree.Item.{Item}
 use Rattle.spf_kernel.specs.declared.tree.Item.TheVariants as item_is
-use Rattle.spf_kernel.specs.declared.tree.Loop.{Loop}
-use Rattle.spf_kernel.specs.declared.tree.DataDecl.{DataDecl}
-use Rattle.spf_kernel.specs.declared.tree.Decl.{Decl}
 use Rattle.spf_kernel.specs.declared.tree.Decl.TheVariants.{Params, Index, Values}
-use Rattle.spf_kernel.specs.declared.tree.Tree.{Tree}
 use Rattle.spf_kernel.specs.TreeNames.{names_in}
 
 -- how many parameters, index arrays and data arrays are declared

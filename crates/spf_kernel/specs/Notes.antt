@@ -1,33 +1,15 @@
 -- The notes of a raw tree, in the order of its text.
 use Rattle.std.specs.Prelude.{ℕ, Bool, true, false, nat_lt, if◌then◌else◌, List, [], ◌∷◌, ◌++◌, Option, None, Some, is_some, map, flat_map, drop}
 use Rattle.std.specs.Option.{unwrap_or}
-use Rattle.spf_lex.specs.declared.cursor.Token.{Token}
-use Rattle.spf_kernel.specs.declared.raw.RawIx.{RawIx, RawIx', out-RawIx, Row_of-RawStep, end_of-RawStep, more_of-RawStep}
-use Rattle.spf_kernel.specs.declared.raw.RawStep.{RawStep}
-use Rattle.spf_kernel.specs.declared.raw.RawMono.{RawMono, Number', Atom, RawMono-Number-1-None', RawMono-Number-1-Some'}
-use Rattle.spf_kernel.specs.declared.raw.RawAtom.{RawAtom, out-RawAtom, RawAtom', RawAtom-at-None', RawAtom-at-Some', Row_of-RawIx, end_of-RawIx, more_of-RawIx}
-use Rattle.spf_kernel.specs.declared.raw.RawValue.{RawValue, RawValue', Row_of-RawFactor, end_of-RawFactor, more_of-RawFactor, Row_of-RawSummand, end_of-RawSummand, more_of-RawSummand}
-use Rattle.spf_kernel.specs.declared.raw.RawFactor.{RawFactor, Paren', Row_of-RawValue, end_of-RawValue, more_of-RawValue}
+use Rattle.spf_kernel.specs.Types.{Token, RawIx, RawIx', out-RawIx, Row_of-RawStep, end_of-RawStep, more_of-RawStep, RawStep, RawMono, Number', RawMono-Number-1-None', RawMono-Number-1-Some', RawAtom, out-RawAtom, RawAtom', RawAtom-at-None', RawAtom-at-Some', Row_of-RawIx, end_of-RawIx, more_of-RawIx, RawValue, RawValue', Row_of-RawFactor, end_of-RawFactor, more_of-RawFactor, Row_of-RawSummand, end_of-RawSummand, more_of-RawSummand, RawFactor, Paren', Row_of-RawValue, end_of-RawValue, more_of-RawValue, RawAssign, RawCond, RawGuard, RawPart, RawItem, RawLoop, RawSized, RawDecl, RawKernel, Note, Says, Spot, Scope}
+use Rattle.spf_kernel.specs.declared.raw.RawMono.{Atom}
 use Rattle.spf_kernel.specs.declared.raw.RawFactor.TheVariants as factor_is
-use Rattle.spf_kernel.specs.declared.raw.RawAssign.{RawAssign}
-use Rattle.spf_kernel.specs.declared.raw.RawCond.{RawCond}
-use Rattle.spf_kernel.specs.declared.raw.RawGuard.{RawGuard}
-use Rattle.spf_kernel.specs.declared.raw.RawPart.{RawPart}
 use Rattle.spf_kernel.specs.declared.raw.RawPart.TheVariants as part_is
-use Rattle.spf_kernel.specs.declared.raw.RawItem.{RawItem}
 use Rattle.spf_kernel.specs.declared.raw.RawItem.TheVariants.{Part, Inner}
-use Rattle.spf_kernel.specs.declared.raw.RawLoop.{RawLoop}
-use Rattle.spf_kernel.specs.declared.raw.RawSized.{RawSized}
-use Rattle.spf_kernel.specs.declared.raw.RawDecl.{RawDecl}
 use Rattle.spf_kernel.specs.declared.raw.RawDecl.TheVariants.{Params, Index, Values}
-use Rattle.spf_kernel.specs.declared.raw.RawKernel.{RawKernel}
-use Rattle.spf_kernel.specs.declared.note.Note.{Note}
-use Rattle.spf_kernel.specs.declared.note.Says.{Says}
 use Rattle.spf_kernel.specs.declared.note.Says.TheVariants.{Declared, Variable, Used, Large, Excess, Factor, Guard, Condition}
-use Rattle.spf_kernel.specs.declared.note.Spot.{Spot}
 use Rattle.spf_kernel.specs.declared.note.Spot.TheVariants as spot_is
 use Rattle.spf_kernel.specs.declared.note.Sort.TheVariants as sort_is
-use Rattle.spf_kernel.specs.declared.note.Scope.{Scope}
 use Rattle.spf_kernel.specs.Scopes.{nothing, within, inside}
 
 abbrev pub note : Token → Says → Scope → Note

@@ -1,14 +1,11 @@
 -- The kernels that a text holds, and what reading one answers.
 use Rattle.std.specs.Prelude.{ℕ, ◌≡◌, List, length, Result, Ok, Err, ⊤}
-use Rattle.spf_base.specs.declared.place.Place.{Place}
-use Rattle.spf_lex.specs.Standing.{place_from}
-use Rattle.spf_lex.specs.declared.token_list.Span.{Span}
-use Rattle.spf_lex.specs.Tokens.{Tokenized, IsTokenized, HasTokens, texts}
-use Rattle.spf_kernel.specs.declared.raw.RawKernel.{RawKernel}
-use Rattle.spf_kernel.specs.declared.tree.Tree.{Tree}
+use Rattle.spf_kernel.specs.Types.{Place, Span, RawKernel, Tree}
 use Rattle.spf_kernel.specs.declared.fault.KernelFault.{KernelFault}
-use Rattle.spf_kernel.specs.declared.fault.KernelFault.TheVariants.{Syntax, Rule, Memory}
 use Rattle.spf_kernel.specs.declared.fault.Unkept.{Unkept}
+use Rattle.spf_lex.specs.Standing.{place_from}
+use Rattle.spf_lex.specs.Tokens.{Tokenized, IsTokenized, HasTokens, texts}
+use Rattle.spf_kernel.specs.declared.fault.KernelFault.TheVariants.{Syntax, Rule, Memory}
 use Rattle.spf_kernel.specs.declared.fault.Unkept.TheVariants as unkept
 use Rattle.spf_kernel.specs.Facts.{facts_of}
 use Rattle.spf_kernel.specs.Names.{names_of}

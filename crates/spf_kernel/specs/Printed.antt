@@ -1,32 +1,15 @@
 -- The words that a tree is printed as, one case for each production.
 use Rattle.std.specs.Prelude.{ℕ, ℤ, ◌-◌, ◌/◌, ◌%◌, min, Bool, true, false, ◌==◌, if◌then◌else◌, List, [], ◌∷◌, ◌++◌, flat_map, replicate, codes, decimal, unsigned_abs}
 use Rattle.std.specs.Int.{is_negative}
-use Rattle.spf_term.specs.declared.term.Term.{Term, Term', Row_of-Mono, end_of-Mono, more_of-Mono}
-use Rattle.spf_term.specs.declared.term.Mono.{Mono}
-use Rattle.spf_term.specs.declared.term.Atom.{Atom, Var, Param, App}
-use Rattle.spf_kernel.specs.declared.tree.Value.{Value, Value', Row_of-Prod, end_of-Prod, more_of-Prod, Row_of-Factor, end_of-Factor, more_of-Factor}
-use Rattle.spf_kernel.specs.declared.tree.Prod.{Prod}
-use Rattle.spf_kernel.specs.declared.tree.Factor.{Factor}
+use Rattle.spf_kernel.specs.Types.{Term, Term', Row_of-Mono, end_of-Mono, more_of-Mono, Mono, Var, Param, App, Value, Value', Row_of-Prod, end_of-Prod, more_of-Prod, Row_of-Factor, end_of-Factor, more_of-Factor, Prod, Factor, Assign, Becomes, Compare, Trend, Cond, Guard, Part, Item, Loop, DataDecl, Decl, Tree, TreeNames}
+use Rattle.spf_term.specs.declared.term.Atom.{Atom}
 use Rattle.spf_kernel.specs.declared.tree.Factor.TheVariants as factor_is
-use Rattle.spf_kernel.specs.declared.tree.Assign.{Assign}
-use Rattle.spf_kernel.specs.declared.tree.Becomes.{Becomes}
 use Rattle.spf_kernel.specs.declared.tree.Becomes.TheVariants.{Put, Add}
-use Rattle.spf_kernel.specs.declared.tree.Compare.{Compare}
 use Rattle.spf_kernel.specs.declared.tree.Compare.TheVariants.{Equal, Unequal, Less, AtMost, Greater, AtLeast}
-use Rattle.spf_kernel.specs.declared.tree.Trend.{Trend}
 use Rattle.spf_kernel.specs.declared.tree.Trend.TheVariants.{Free, Monotone, Strict}
-use Rattle.spf_kernel.specs.declared.tree.Cond.{Cond}
-use Rattle.spf_kernel.specs.declared.tree.Guard.{Guard}
-use Rattle.spf_kernel.specs.declared.tree.Part.{Part}
 use Rattle.spf_kernel.specs.declared.tree.Part.TheVariants as part_is
-use Rattle.spf_kernel.specs.declared.tree.Item.{Item}
 use Rattle.spf_kernel.specs.declared.tree.Item.TheVariants as item_is
-use Rattle.spf_kernel.specs.declared.tree.Loop.{Loop}
-use Rattle.spf_kernel.specs.declared.tree.DataDecl.{DataDecl}
-use Rattle.spf_kernel.specs.declared.tree.Decl.{Decl}
 use Rattle.spf_kernel.specs.declared.tree.Decl.TheVariants.{Params, Index, Values}
-use Rattle.spf_kernel.specs.declared.tree.Tree.{Tree}
-use Rattle.spf_kernel.specs.declared.tree_names.TreeNames.{TreeNames}
 use Rattle.spf_kernel.specs.TreeNames.{name_at, names_in}
 
 -- ---- lists

@@ -2,35 +2,14 @@
 use Rattle.std.specs.Prelude.{ℕ, zero, suc, ◌-◌, Bool, true, false, [], ◌∷◌, Option, None, Some}
 use Rattle.spf_lex.specs.BundleWords.{same_kind}
 use Rattle.spf_lex.specs.Production.{Production, ◌>>=◌, ◌>>◌, ◌<$>◌, ◌or◌, production, last, token, nothing, optional, flag, many, and_more, separated, one_of, behind, between}
-use Rattle.spf_lex.specs.declared.cursor.Token.{Token}
+use Rattle.spf_kernel.specs.Types.{Token, BRACKETS, PARENTHESES, RawIx, roll-RawIx, RawStep, roll-RawStep, RawMono, RawAtom, roll-RawAtom, RawValue, roll-RawValue, RawSummand, roll-RawSummand, RawFactor, RawAssign, RawCond, RawGuard, RawRange, RawPart, RawItem, RawLoop, RawSized, RawDecl, RawKernel, Compare, Trend}
 use Rattle.spf_lex.specs.declared.kind.Kind.TheVariants as kind
-use Rattle.spf_kernel.specs.declared.ix.TheConstants.{BRACKETS}
-use Rattle.spf_kernel.specs.declared.value.TheConstants.{PARENTHESES}
-use Rattle.spf_kernel.specs.declared.raw.RawIx.{RawIx, roll-RawIx}
-use Rattle.spf_kernel.specs.declared.raw.RawStep.{RawStep, roll-RawStep}
-use Rattle.spf_kernel.specs.declared.raw.RawMono.{RawMono}
 use Rattle.spf_kernel.specs.declared.raw.RawMono.TheVariants as mono_is
-use Rattle.spf_kernel.specs.declared.raw.RawAtom.{RawAtom, roll-RawAtom}
-use Rattle.spf_kernel.specs.declared.raw.RawValue.{RawValue, roll-RawValue}
-use Rattle.spf_kernel.specs.declared.raw.RawSummand.{RawSummand, roll-RawSummand}
-use Rattle.spf_kernel.specs.declared.raw.RawFactor.{RawFactor}
 use Rattle.spf_kernel.specs.declared.raw.RawFactor.TheVariants as factor_is
-use Rattle.spf_kernel.specs.declared.raw.RawAssign.{RawAssign}
-use Rattle.spf_kernel.specs.declared.raw.RawCond.{RawCond}
-use Rattle.spf_kernel.specs.declared.raw.RawGuard.{RawGuard}
-use Rattle.spf_kernel.specs.declared.raw.RawRange.{RawRange}
-use Rattle.spf_kernel.specs.declared.raw.RawPart.{RawPart}
 use Rattle.spf_kernel.specs.declared.raw.RawPart.TheVariants as part_is
-use Rattle.spf_kernel.specs.declared.raw.RawItem.{RawItem}
 use Rattle.spf_kernel.specs.declared.raw.RawItem.TheVariants as item_is
-use Rattle.spf_kernel.specs.declared.raw.RawLoop.{RawLoop}
-use Rattle.spf_kernel.specs.declared.raw.RawSized.{RawSized}
-use Rattle.spf_kernel.specs.declared.raw.RawDecl.{RawDecl}
 use Rattle.spf_kernel.specs.declared.raw.RawDecl.TheVariants as decl_is
-use Rattle.spf_kernel.specs.declared.raw.RawKernel.{RawKernel}
-use Rattle.spf_kernel.specs.declared.tree.Compare.{Compare}
 use Rattle.spf_kernel.specs.declared.tree.Compare.TheVariants as compare_is
-use Rattle.spf_kernel.specs.declared.tree.Trend.{Trend}
 use Rattle.spf_kernel.specs.declared.tree.Trend.TheVariants as trend_is
 
 -- a production of which nothing is no text

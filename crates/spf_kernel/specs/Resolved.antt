@@ -5,52 +5,19 @@ use Rattle.std.specs.Option.{option_map}
 use Rattle.std.specs.Str.{bytes_eq}
 use Rattle.spf_base.specs.Word.{IsName}
 use Rattle.spf_base.specs.Wrap.{wrap}
-use Rattle.spf_term.specs.declared.term.Term.{Term, roll-Term}
-use Rattle.spf_term.specs.declared.term.Mono.{Mono, roll-Mono}
+use Rattle.spf_kernel.specs.Types.{Term, roll-Term, Mono, roll-Mono, Token, Scope, RawIx, RawIx', out-RawIx, Row_of-RawStep, end_of-RawStep, more_of-RawStep, RawStep, RawMono, Number', RawMono-Number-1-None', RawMono-Number-1-Some', RawAtom, out-RawAtom, RawAtom', RawAtom-at-None', RawAtom-at-Some', end_of-RawIx, more_of-RawIx, RawValue, RawValue', Row_of-RawFactor, end_of-RawFactor, more_of-RawFactor, Row_of-RawSummand, end_of-RawSummand, more_of-RawSummand, RawFactor, Paren', end_of-RawValue, more_of-RawValue, RawAssign, RawCond, RawGuard, RawPart, RawItem, RawLoop, RawSized, RawDecl, RawKernel, Note, Value, roll-Value, Prod, roll-Prod, Factor, Becomes, Assign, Cond, Guard, Part, Item, Loop, DataDecl, Decl, Trend, Tree}
 use Rattle.spf_term.specs.declared.term.Atom.{Atom}
 use Rattle.spf_term.specs.declared.term.Atom.TheVariants as atom
-use Rattle.spf_lex.specs.declared.cursor.Token.{Token}
-use Rattle.spf_kernel.specs.declared.note.Scope.{Scope}
-use Rattle.spf_kernel.specs.declared.raw.RawIx.{RawIx, RawIx', out-RawIx, Row_of-RawStep, end_of-RawStep, more_of-RawStep}
-use Rattle.spf_kernel.specs.declared.raw.RawStep.{RawStep}
-use Rattle.spf_kernel.specs.declared.raw.RawMono.{RawMono, Number', RawMono-Number-1-None', RawMono-Number-1-Some'}
 use Rattle.spf_kernel.specs.declared.raw.RawMono as raw_mono
-use Rattle.spf_kernel.specs.declared.raw.RawAtom.{RawAtom, out-RawAtom, RawAtom', RawAtom-at-None', RawAtom-at-Some', end_of-RawIx, more_of-RawIx}
-use Rattle.spf_kernel.specs.declared.raw.RawValue.{RawValue, RawValue', Row_of-RawFactor, end_of-RawFactor, more_of-RawFactor, Row_of-RawSummand, end_of-RawSummand, more_of-RawSummand}
-use Rattle.spf_kernel.specs.declared.raw.RawFactor.{RawFactor, Paren', end_of-RawValue, more_of-RawValue}
 use Rattle.spf_kernel.specs.declared.raw.RawFactor.TheVariants as raw_factor
-use Rattle.spf_kernel.specs.declared.raw.RawAssign.{RawAssign}
-use Rattle.spf_kernel.specs.declared.raw.RawCond.{RawCond}
-use Rattle.spf_kernel.specs.declared.raw.RawGuard.{RawGuard}
-use Rattle.spf_kernel.specs.declared.raw.RawPart.{RawPart}
 use Rattle.spf_kernel.specs.declared.raw.RawPart.TheVariants as raw_part
-use Rattle.spf_kernel.specs.declared.raw.RawItem.{RawItem}
 use Rattle.spf_kernel.specs.declared.raw.RawItem.TheVariants as raw_item
-use Rattle.spf_kernel.specs.declared.raw.RawLoop.{RawLoop}
-use Rattle.spf_kernel.specs.declared.raw.RawSized.{RawSized}
-use Rattle.spf_kernel.specs.declared.raw.RawDecl.{RawDecl}
 use Rattle.spf_kernel.specs.declared.raw.RawDecl.TheVariants as raw_decl
-use Rattle.spf_kernel.specs.declared.raw.RawKernel.{RawKernel}
-use Rattle.spf_kernel.specs.declared.note.Note.{Note}
-use Rattle.spf_kernel.specs.declared.tree.Value.{Value, roll-Value}
-use Rattle.spf_kernel.specs.declared.tree.Prod.{Prod, roll-Prod}
-use Rattle.spf_kernel.specs.declared.tree.Factor.{Factor}
 use Rattle.spf_kernel.specs.declared.tree.Factor.TheVariants as factor
-use Rattle.spf_kernel.specs.declared.tree.Becomes.{Becomes}
 use Rattle.spf_kernel.specs.declared.tree.Becomes.TheVariants.{Put, Add}
-use Rattle.spf_kernel.specs.declared.tree.Assign.{Assign}
-use Rattle.spf_kernel.specs.declared.tree.Cond.{Cond}
-use Rattle.spf_kernel.specs.declared.tree.Guard.{Guard}
-use Rattle.spf_kernel.specs.declared.tree.Part.{Part}
 use Rattle.spf_kernel.specs.declared.tree.Part.TheVariants as part
-use Rattle.spf_kernel.specs.declared.tree.Item.{Item}
 use Rattle.spf_kernel.specs.declared.tree.Item.TheVariants as item
-use Rattle.spf_kernel.specs.declared.tree.Loop.{Loop}
-use Rattle.spf_kernel.specs.declared.tree.DataDecl.{DataDecl}
-use Rattle.spf_kernel.specs.declared.tree.Decl.{Decl}
 use Rattle.spf_kernel.specs.declared.tree.Decl.TheVariants as decl
-use Rattle.spf_kernel.specs.declared.tree.Trend.{Trend}
-use Rattle.spf_kernel.specs.declared.tree.Tree.{Tree}
 use Rattle.spf_kernel.specs.Facts.{text_of, variables_in}
 use Rattle.spf_kernel.specs.Names.{Names, number_of}
 use Rattle.spf_kernel.specs.Rules.{tokens_that, is_naming}

@@ -3,12 +3,9 @@ use Rattle.std.specs.Prelude.{ℕ, ◌≡◌, ◌+◌, ◌≤◌, nat_le, Bool, 
 use Rattle.std.specs.List.{list_any}
 use Rattle.std.specs.Str.{bytes_eq}
 use Rattle.std.specs.Char.{is_ascii_uppercase}
-use Rattle.spf_lex.specs.declared.cursor.Token.{Token}
-use Rattle.spf_kernel.specs.declared.note.Note.{Note}
-use Rattle.spf_kernel.specs.declared.note.Says.{Says}
+use Rattle.spf_kernel.specs.Types.{Token, Note, Says, Spot}
 use Rattle.spf_kernel.specs.declared.note.Says.TheVariants.{Declared, Variable, Used, Large, Excess, Factor, Guard, Condition}
 use Rattle.spf_kernel.specs.declared.note.Sort.TheVariants.{Param, Index, Data, Loop}
-use Rattle.spf_kernel.specs.declared.note.Spot.{Spot}
 use Rattle.spf_kernel.specs.declared.note.Spot.TheVariants as spot_is
 use Rattle.spf_kernel.specs.Facts.{Fact, fact_of, facts_of}
 

@@ -1,18 +1,10 @@
 -- The data sites of a tree: each place of its loops where an element of a data array stands.
 use Rattle.std.specs.Prelude.{ℕ, ◌+◌}
 use Rattle.std.specs.List.{sum_by}
-use Rattle.spf_kernel.specs.declared.tree.Value.{Value, Value', Row_of-Prod, end_of-Prod, more_of-Prod, Row_of-Factor, end_of-Factor, more_of-Factor}
-use Rattle.spf_kernel.specs.declared.tree.Prod.{Prod}
-use Rattle.spf_kernel.specs.declared.tree.Factor.{Factor}
+use Rattle.spf_kernel.specs.Types.{Value, Value', Row_of-Prod, end_of-Prod, more_of-Prod, Row_of-Factor, end_of-Factor, more_of-Factor, Prod, Factor, Assign, Guard, Part, Item, Loop, Tree}
 use Rattle.spf_kernel.specs.declared.tree.Factor.TheVariants as factor_is
-use Rattle.spf_kernel.specs.declared.tree.Assign.{Assign}
-use Rattle.spf_kernel.specs.declared.tree.Guard.{Guard}
-use Rattle.spf_kernel.specs.declared.tree.Part.{Part}
 use Rattle.spf_kernel.specs.declared.tree.Part.TheVariants as part_is
-use Rattle.spf_kernel.specs.declared.tree.Item.{Item}
 use Rattle.spf_kernel.specs.declared.tree.Item.TheVariants as item_is
-use Rattle.spf_kernel.specs.declared.tree.Loop.{Loop}
-use Rattle.spf_kernel.specs.declared.tree.Tree.{Tree}
 
 abbrev mutual
   pub value_sites : Value → ℕ

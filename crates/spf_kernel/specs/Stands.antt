@@ -1,11 +1,9 @@
 -- Where a kernel stands among the tokens of a text.
 use Rattle.std.specs.Prelude.{ℕ}
-use Rattle.spf_base.specs.declared.place.Place.{Place}
+use Rattle.spf_kernel.specs.Types.{Place, TextKind, RawKernel}
 use Rattle.spf_lex.specs.BundleWords.{bundle_words}
 use Rattle.spf_lex.specs.Standing as standing
 use Rattle.spf_lex.specs.Tokens.{Tokenized}
-use Rattle.spf_lex.specs.declared.text_kind.TextKind.{TextKind}
-use Rattle.spf_kernel.specs.declared.raw.RawKernel.{RawKernel}
 use Rattle.spf_kernel.specs.Productions.{kernel}
 
 -- a kernel with this raw tree stands from token `from` up to token `next`

@@ -1,10 +1,8 @@
 -- The names that declarations give to numbers.
 use Rattle.std.specs.Prelude.{ℕ, List, [], ◌∷◌, map, flat_map, slice_get}
 use Rattle.std.specs.Option.{unwrap_or}
-use Rattle.spf_kernel.specs.declared.tree_names.TreeNames.{TreeNames}
-use Rattle.spf_kernel.specs.declared.tree.Decl.{Decl}
+use Rattle.spf_kernel.specs.Types.{TreeNames, Decl, DataDecl}
 use Rattle.spf_kernel.specs.declared.tree.Decl.TheVariants.{Params, Index, Values}
-use Rattle.spf_kernel.specs.declared.tree.DataDecl.{DataDecl}
 
 abbrev pub params_of : Decl → List (List ℕ)
 params_of (Params names) = names

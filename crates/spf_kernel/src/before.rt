@@ -28,6 +28,7 @@ pub(crate) struct Before<'a> {
 
 impl<'a> Before<'a> {
     /// What stands before the first fact.
+    #[tactic(auto, unfolding(crate::specs::Before::before_of, crate::specs::Before::once))]
     pub(crate) fn new(alloc: Global) -> Before<'a>
         ensures { result ≡ before_of [] }
     {

@@ -38,6 +38,7 @@ pub(crate) fn is_site(says: Says) -> bool
 }
 
 impl Counts {
+    #[tactic(auto, unfolding(crate::specs::Counts::counts_of))]
     pub(crate) fn new() -> Counts
         ensures { result ≡ counts_of [] }
     {

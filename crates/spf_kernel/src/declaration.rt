@@ -32,7 +32,7 @@ impl Part<Kind> for RawSized {
     }
 
     #[tactic(auto, unfolding(crate::specs::Productions::sized))]
-    fn read(alloc: Global, tokens: &mut Cursor<Kind>) -> Result<RawSized, ReadFault> {
+    fn parse(alloc: Global, tokens: &mut Cursor<Kind>) -> Result<RawSized, ReadFault> {
         let name = tokens.expect(Kind::Name)?;
         let size = in_brackets(alloc, tokens)?;
         Ok(RawSized { name, size })
@@ -95,7 +95,7 @@ impl Part<Kind> for RawDecl {
     }
 
     #[tactic(auto, unfolding(crate::specs::Productions::decl, crate::specs::Productions::params, crate::specs::Productions::index, spf_lex::specs::LookAhead::first, spf_lex::specs::LookAhead::nullable))]
-    fn read(alloc: Global, tokens: &mut Cursor<Kind>) -> Result<RawDecl, ReadFault> {
+    fn parse(alloc: Global, tokens: &mut Cursor<Kind>) -> Result<RawDecl, ReadFault> {
         if tokens.sees_any(&[Kind::Param]) {
             params(alloc, tokens)
         } else if tokens.sees_any(&[Kind::Index]) {
@@ -118,7 +118,7 @@ impl Part<Kind> for RawKernel {
 
     /// A kernel. Linear in its tokens.
     #[tactic(auto, unfolding(crate::specs::Productions::kernel))]
-    fn read(alloc: Global, tokens: &mut Cursor<Kind>) -> Result<RawKernel, ReadFault> {
+    fn parse(alloc: Global, tokens: &mut Cursor<Kind>) -> Result<RawKernel, ReadFault> {
         tokens.expect(Kind::Kernel)?;
         tokens.expect(Kind::OpenBrace)?;
         let decls = repeated(alloc, tokens)?;

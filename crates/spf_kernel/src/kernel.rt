@@ -1,11 +1,12 @@
 //! A kernel that keeps the rules, and reading one.
 
-ghost use Rattle.std.specs.Prelude.{◌≡◌, ◌≤◌, ◌⊎◌, ℕ, length, Result, IfOk, Ok, Err};
+ghost use Rattle.std.specs.Prelude.{◌≡◌, ◌<◌, ◌≤◌, ◌^◌, ◌⊎◌, ℕ, length, Result, IfOk, Ok, Err};
 ghost use Rattle.spf_lex.specs.Joined.{joined};
 ghost use Rattle.spf_lex.specs.Tokens.{Tokenized, IsTokenized, texts};
 ghost use Rattle.spf_kernel.specs.declared.fault.KernelFault.{KernelFault};
 ghost use Rattle.spf_kernel.specs.declared.fault.KernelFault.TheVariants.{Memory};
 ghost use Rattle.spf_kernel.specs.declared.tree.Tree.{Tree};
+ghost use Rattle.spf_kernel.specs.Bounded.{IsBoundedTree};
 ghost use Rattle.spf_kernel.specs.Checked.{Checked};
 ghost use Rattle.spf_kernel.specs.Named.{IsNamed};
 ghost use Rattle.spf_kernel.specs.Notes.{kernel_notes};
@@ -15,7 +16,7 @@ ghost use Rattle.spf_kernel.specs.Parsed.{IsParsed, IsTextOf, IsAnswer, IsVerdic
 ghost use Rattle.spf_kernel.specs.Printed.{words_of};
 
 use crate::fault::{KernelFault, Unkept};
-use crate::names::Names;
+use crate::names::{Names, Source};
 use crate::notes::notes_of;
 use crate::print_tree::tree_text;
 use crate::raw::RawKernel;
@@ -27,7 +28,11 @@ use spf_lex::{Kind, PartFault, Tokens, part_at, place_from};
 use std::alloc::Global;
 use std::marker::Model;
 
-/// A kernel that some text spells and that keeps the rules, seen as its tree.
+/// A kernel has fewer notes, so that each loop has fewer than 2^31 sites. No text of 64 MiB has so many, since a token gives
+/// three at most.
+const TOO_MANY_NOTES: usize = 1 << 30;
+
+/// A kernel that some text spells and that keeps the rules, seen as its tree, which is small enough.
 #[derive(Drop)]
 pub struct Kernel {
     tree: Tree,
@@ -38,6 +43,7 @@ impl Model for Kernel {
     ghost use Rattle.spf_term.specs.contracts.term.Term as term;
     ghost use Rattle.spf_kernel.specs.contracts.tree.Value as value;
     ghost use Rattle.spf_kernel.specs.declared.tree.Tree.{Tree};
+    ghost use Rattle.spf_kernel.specs.Bounded.{IsBoundedTree};
     ghost use Rattle.spf_kernel.specs.Parsed.{IsParsed};
 
     ghost Value = { Tree };
@@ -46,7 +52,7 @@ impl Model for Kernel {
 
     ghost view = { λ kernel. kernel.tree };
 
-    ghost invariant = { λ kernel. IsParsed kernel.tree };
+    ghost invariant = { λ kernel. IsParsed kernel.tree × IsBoundedTree kernel.tree };
 }
 
 impl Kernel {
@@ -55,6 +61,7 @@ impl Kernel {
         ensures tree { result.now ≡ self.now }
         ensures parsed { IsParsed result.now }
         ensures named { IsNamed result.now }
+        ensures bounded { IsBoundedTree result.now }
     {
         &self.tree
     }
@@ -70,9 +77,15 @@ fn kernel_of(
     requires stands { (from : ℕ) × (next : ℕ) × StandsAt tokens.now from next raw.now }
     requires lexed { IsTokenized tokens.now.text tokens.now.spans }
     requires checked { Checked (texts tokens.now) (kernel_notes raw.now) (Ok names.now) }
+    requires few { length (kernel_notes raw.now) < 2 ^ 30 }
     ensures { IfOk result (λ kernel. kernel ≡ tree_of (texts tokens.now) names.now raw.now) }
 {
-    let tree = resolve(alloc, tokens, names, raw)?;
+    let source = Source {
+        alloc,
+        tokens,
+        names,
+    };
+    let tree = resolve(&source, raw)?;
     Ok(Kernel { tree })
 }
 
@@ -84,6 +97,9 @@ pub fn judge(alloc: Global, tokens: &Tokens, raw: &RawKernel) -> Result<Kernel, 
     ensures { IsVerdict tokens.now raw.now result }
 {
     let notes = notes_of(alloc, raw)?;
+    if notes.len() >= TOO_MANY_NOTES {
+        return Err(Unkept::Memory);
+    }
     match check(alloc, tokens, notes.as_slice())? {
         Ok(names) => Ok(kernel_of(alloc, tokens, &names, raw)?),
         Err(breach) => Err(Unkept::Rule {
@@ -99,7 +115,6 @@ pub fn parse(alloc: Global, tokens: &Tokens, from: u32) -> Result<(Kernel, u32),
     requires { from ≤ length (texts tokens.now) }
     ensures { IsAnswer tokens.now from result }
 {
-    let _count = tokens.len();
     let (raw, next) = match part_at::<Kind, RawKernel>(alloc, tokens, from) {
         Ok(found) => found,
         Err(PartFault::Syntax { place, kind }) => return Err(KernelFault::Syntax { place, kind }),

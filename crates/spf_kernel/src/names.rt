@@ -138,3 +138,11 @@ impl<'a> Names<'a> {
         self.data_arrays.contains(name)
     }
 }
+
+/// What a raw tree is resolved by: the tokens that its names are, and the names that are declared.
+#[derive(Drop)]
+pub(crate) struct Source<'a> {
+    pub alloc: Global,
+    pub tokens: &'a Tokens<'a>,
+    pub names: &'a Names<'a>,
+}

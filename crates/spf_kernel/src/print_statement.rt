@@ -7,7 +7,7 @@ use crate::print_list::push_separator;
 use crate::print_term::push_term;
 use crate::print_value::{push_entry, push_value};
 use crate::tree::{Assign, Becomes, Compare, Cond, Guard, Item, Loop, Part};
-use crate::tree_names::{TreeNames, copy_name, copy_names};
+use crate::tree_names::{Shown, TreeNames, copy_name, copy_names};
 use spf_base::{Name, NoMemory};
 use spf_lex::Words;
 use spf_term::Term;
@@ -36,89 +36,59 @@ fn push_compare(words: &mut Words, sign: Compare) -> Result<(), NoMemory>
     }
 }
 
-fn push_assign(
-    words: &mut Words,
-    names: &TreeNames,
-    vars: &Items<Name>,
-    assign: &Assign,
-) -> Result<(), NoMemory>
-    ensures { OnOk result (words.new ≡ words.old ++ assign_words names.now vars.now assign.now) }
+fn push_assign(words: &mut Words, shown: &Shown, assign: &Assign) -> Result<(), NoMemory>
+    ensures { OnOk result (words.new ≡ words.old ++ assign_words shown.now.names.now shown.now.vars.now assign.now) }
 {
-    push_entry(words, names, vars, &names.arrays, assign.array, &assign.sub)?;
+    push_entry(words, shown, &shown.names.arrays, assign.array, &assign.sub)?;
     push_becomes(words, assign.sign)?;
-    push_value(words, names, vars, &assign.value)?;
+    push_value(words, shown, &assign.value)?;
     words.push(b";")
 }
 
-fn push_assigns(
-    words: &mut Words,
-    names: &TreeNames,
-    vars: &Items<Name>,
-    assigns: &[Assign],
-) -> Result<(), NoMemory>
-    ensures { OnOk result (words.new ≡ words.old ++ flat_map (assign_words names.now vars.now) assigns.now) }
+fn push_assigns(words: &mut Words, shown: &Shown, assigns: &[Assign]) -> Result<(), NoMemory>
+    ensures { OnOk result (words.new ≡ words.old ++ flat_map (assign_words shown.now.names.now shown.now.vars.now) assigns.now) }
 {
     for assign in assigns {
-        push_assign(words, names, vars, assign)?;
+        push_assign(words, shown, assign)?;
     }
     Ok(())
 }
 
-fn push_cond(
-    words: &mut Words,
-    names: &TreeNames,
-    vars: &Items<Name>,
-    cond: &Cond,
-) -> Result<(), NoMemory>
-    ensures { OnOk result (words.new ≡ words.old ++ cond_words names.now vars.now cond.now) }
+fn push_cond(words: &mut Words, shown: &Shown, cond: &Cond) -> Result<(), NoMemory>
+    ensures { OnOk result (words.new ≡ words.old ++ cond_words shown.now.names.now shown.now.vars.now cond.now) }
 {
-    push_term(words, names, vars, &cond.left)?;
+    push_term(words, shown, &cond.left)?;
     push_compare(words, cond.sign)?;
-    push_term(words, names, vars, &cond.right)
+    push_term(words, shown, &cond.right)
 }
 
-fn push_conds(
-    words: &mut Words,
-    names: &TreeNames,
-    vars: &Items<Name>,
-    conds: &[Cond],
-) -> Result<(), NoMemory>
-    ensures { OnOk result (words.new ≡ words.old ++ separated (codes "and") (cond_words names.now vars.now) conds.now) }
+fn push_conds(words: &mut Words, shown: &Shown, conds: &[Cond]) -> Result<(), NoMemory>
+    ensures { OnOk result (words.new ≡ words.old ++ separated (codes "and") (cond_words shown.now.names.now shown.now.vars.now) conds.now) }
 {
     for (n, cond) in conds.iter().enumerate() {
         push_separator(words, b"and", n)?;
-        push_cond(words, names, vars, cond)?;
+        push_cond(words, shown, cond)?;
     }
     Ok(())
 }
 
-fn push_guard(
-    words: &mut Words,
-    names: &TreeNames,
-    vars: &Items<Name>,
-    guard: &Guard,
-) -> Result<(), NoMemory>
-    ensures { OnOk result (words.new ≡ words.old ++ guard_words names.now vars.now guard.now) }
+fn push_guard(words: &mut Words, shown: &Shown, guard: &Guard) -> Result<(), NoMemory>
+    ensures { OnOk result (words.new ≡ words.old ++ guard_words shown.now.names.now shown.now.vars.now guard.now) }
 {
     words.push(b"if")?;
-    push_conds(words, names, vars, guard.conds.as_slice())?;
+    push_conds(words, shown, guard.conds.as_slice())?;
     words.push(b"{")?;
-    push_assigns(words, names, vars, guard.body.as_slice())?;
+    push_assigns(words, shown, guard.body.as_slice())?;
     words.push(b"}")
 }
 
-fn push_parts(
-    words: &mut Words,
-    names: &TreeNames,
-    vars: &Items<Name>,
-    parts: &[Part],
-) -> Result<(), NoMemory>
-    ensures { OnOk result (words.new ≡ words.old ++ flat_map (part_words names.now vars.now) parts.now) }
+fn push_parts(words: &mut Words, shown: &Shown, parts: &[Part]) -> Result<(), NoMemory>
+    ensures { OnOk result (words.new ≡ words.old ++ flat_map (part_words shown.now.names.now shown.now.vars.now) parts.now) }
 {
     for part in parts {
         match part {
-            Part::Assign(assign) => push_assign(words, names, vars, assign)?,
-            Part::Branch(guard) => push_guard(words, names, vars, guard)?,
+            Part::Assign(assign) => push_assign(words, shown, assign)?,
+            Part::Branch(guard) => push_guard(words, shown, guard)?,
         }
     }
     Ok(())
@@ -127,19 +97,18 @@ fn push_parts(
 /// Writes a variable and its bounds.
 fn push_range(
     words: &mut Words,
-    names: &TreeNames,
-    vars: &Items<Name>,
+    shown: &Shown,
     var: &Name,
     low: &Term,
     high: &Term,
 ) -> Result<(), NoMemory>
-    ensures { OnOk result (words.new ≡ words.old ++ range_words names.now vars.now var.now low.now high.now) }
+    ensures { OnOk result (words.new ≡ words.old ++ range_words shown.now.names.now shown.now.vars.now var.now low.now high.now) }
 {
     words.push_name(var)?;
     words.push(b"in")?;
-    push_term(words, names, vars, low)?;
+    push_term(words, shown, low)?;
     words.push(b"..")?;
-    push_term(words, names, vars, high)
+    push_term(words, shown, high)
 }
 
 /// These variables and one more.
@@ -152,29 +121,27 @@ fn with_variable(alloc: Global, vars: &Items<Name>, var: &Name) -> Result<Items<
     Ok(all)
 }
 
-fn push_item(
-    alloc: Global,
-    words: &mut Words,
-    names: &TreeNames,
-    vars: &Items<Name>,
-    item: &Item,
-) -> Result<(), NoMemory>
-    ensures { OnOk result (words.new ≡ words.old ++ item_words names.now vars.now item.now) }
+fn push_item(alloc: Global, words: &mut Words, shown: &Shown, item: &Item) -> Result<(), NoMemory>
+    ensures { OnOk result (words.new ≡ words.old ++ item_words shown.now.names.now shown.now.vars.now item.now) }
 {
     match item {
-        Item::Assign(assign) => push_assign(words, names, vars, assign),
-        Item::Branch(guard) => push_guard(words, names, vars, guard),
+        Item::Assign(assign) => push_assign(words, shown, assign),
+        Item::Branch(guard) => push_guard(words, shown, guard),
         Item::Inner {
             var,
             low,
             high,
             parts,
         } => {
-            let inner = with_variable(alloc, vars, var)?;
+            let vars = with_variable(alloc, shown.vars, var)?;
+            let inner = Shown {
+                names: shown.names,
+                vars: &vars,
+            };
             words.push(b"for")?;
-            push_range(words, names, vars, var, low, high)?;
+            push_range(words, shown, var, low, high)?;
             words.push(b"{")?;
-            push_parts(words, names, &inner, parts.as_slice())?;
+            push_parts(words, &inner, parts.as_slice())?;
             words.push(b"}")
         }
     }
@@ -183,14 +150,13 @@ fn push_item(
 fn push_items(
     alloc: Global,
     words: &mut Words,
-    names: &TreeNames,
-    vars: &Items<Name>,
+    shown: &Shown,
     items: &[Item],
 ) -> Result<(), NoMemory>
-    ensures { OnOk result (words.new ≡ words.old ++ flat_map (item_words names.now vars.now) items.now) }
+    ensures { OnOk result (words.new ≡ words.old ++ flat_map (item_words shown.now.names.now shown.now.vars.now) items.now) }
 {
     for item in items {
-        push_item(alloc, words, names, vars, item)?;
+        push_item(alloc, words, shown, item)?;
     }
     Ok(())
 }
@@ -204,14 +170,16 @@ pub fn push_loop(
 ) -> Result<(), NoMemory>
     ensures { OnOk result (words.new ≡ words.old ++ loop_words names.now of.now) }
 {
-    let outside = Items::new(alloc);
-    let inside = with_variable(alloc, &outside, &of.var)?;
+    let none = Items::new(alloc);
+    let vars = with_variable(alloc, &none, &of.var)?;
+    let outside = Shown { names, vars: &none };
+    let inside = Shown { names, vars: &vars };
     words.push(b"loop")?;
     words.push_name(&of.name)?;
     words.push(b"(")?;
-    push_range(words, names, &outside, &of.var, &of.low, &of.high)?;
+    push_range(words, &outside, &of.var, &of.low, &of.high)?;
     words.push(b")")?;
     words.push(b"{")?;
-    push_items(alloc, words, names, &inside, of.items.as_slice())?;
+    push_items(alloc, words, &inside, of.items.as_slice())?;
     words.push(b"}")
 }

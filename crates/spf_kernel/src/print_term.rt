@@ -4,11 +4,10 @@ ghost use Rattle.std.specs.Prelude.{ℕ, ◌≡◌, ◌≤◌, ◌<◌, ◌-◌,
 ghost use Rattle.spf_kernel.specs.Printed.{atom_words, coefficient_words, further_mono, further_number, limit, mono_words, only_number, pieces, term_words};
 
 use crate::print_list::{push_lead, push_sign};
-use crate::tree_names::{TreeNames, push_name_at};
-use spf_base::{Name, NoMemory};
+use crate::tree_names::{Shown, push_name_at};
+use spf_base::NoMemory;
 use spf_lex::Words;
 use spf_term::{Atom, Mono, Term};
-use sqlite_items::Items;
 
 /// Law: the numbers that a constant is printed as are as few within the limit as can
 /// be. A constant behind monomials is printed as its pieces, and one that is alone too, unless it is zero.
@@ -62,71 +61,51 @@ fn push_coefficient(words: &mut Words, coefficient: i64) -> Result<(), NoMemory>
 }
 
 #[cycle(print_term)]
-fn push_atom(
-    words: &mut Words,
-    names: &TreeNames,
-    vars: &Items<Name>,
-    atom: &Atom,
-) -> Result<(), NoMemory>
-    ensures { OnOk result (words.new ≡ words.old ++ atom_words names.now vars.now atom.now) }
+fn push_atom(words: &mut Words, shown: &Shown, atom: &Atom) -> Result<(), NoMemory>
+    ensures { OnOk result (words.new ≡ words.old ++ atom_words shown.now.names.now shown.now.vars.now atom.now) }
 {
     match atom {
-        Atom::Var(number) => push_name_at(words, vars, *number),
-        Atom::Param(number) => push_name_at(words, &names.params, *number),
+        Atom::Var(number) => push_name_at(words, shown.vars, *number),
+        Atom::Param(number) => push_name_at(words, &shown.names.params, *number),
         Atom::App { fun, arg } => {
-            push_name_at(words, &names.tables, *fun)?;
+            push_name_at(words, &shown.names.tables, *fun)?;
             words.push(b"[")?;
-            push_term(words, names, vars, arg)?;
+            push_term(words, shown, arg)?;
             words.push(b"]")
         }
     }
 }
 
 #[cycle(print_term)]
-fn push_mono(
-    words: &mut Words,
-    names: &TreeNames,
-    vars: &Items<Name>,
-    mono: &Mono,
-) -> Result<(), NoMemory>
-    ensures { OnOk result (words.new ≡ words.old ++ mono_words names.now vars.now mono.now) }
+fn push_mono(words: &mut Words, shown: &Shown, mono: &Mono) -> Result<(), NoMemory>
+    ensures { OnOk result (words.new ≡ words.old ++ mono_words shown.now.names.now shown.now.vars.now mono.now) }
 {
     push_coefficient(words, mono.coef)?;
-    push_atom(words, names, vars, &mono.atom)
+    push_atom(words, shown, &mono.atom)
 }
 
 #[cycle(print_term)]
-fn push_further_monos(
-    words: &mut Words,
-    names: &TreeNames,
-    vars: &Items<Name>,
-    monos: &[Mono],
-) -> Result<(), NoMemory>
-    ensures { OnOk result (words.new ≡ words.old ++ flat_map (further_mono names.now vars.now) monos.now) }
+fn push_further_monos(words: &mut Words, shown: &Shown, monos: &[Mono]) -> Result<(), NoMemory>
+    ensures { OnOk result (words.new ≡ words.old ++ flat_map (further_mono shown.now.names.now shown.now.vars.now) monos.now) }
 {
     for mono in monos {
         push_sign(words, mono.coef < 0)?;
-        push_mono(words, names, vars, mono)?;
+        push_mono(words, shown, mono)?;
     }
     Ok(())
 }
 
 /// Writes an index expression. Linear in it and in how many numbers its constant is written as.
 #[cycle(print_term)]
-pub fn push_term(
-    words: &mut Words,
-    names: &TreeNames,
-    vars: &Items<Name>,
-    term: &Term,
-) -> Result<(), NoMemory>
-    ensures { OnOk result (words.new ≡ words.old ++ term_words names.now vars.now term.now) }
+pub fn push_term(words: &mut Words, shown: &Shown, term: &Term) -> Result<(), NoMemory>
+    ensures { OnOk result (words.new ≡ words.old ++ term_words shown.now.names.now shown.now.vars.now term.now) }
 {
     match term.monos.as_slice() {
         [] => push_only_number(words, term.constant),
         [first, others @ ..] => {
             push_lead(words, first.coef < 0)?;
-            push_mono(words, names, vars, first)?;
-            push_further_monos(words, names, vars, others)?;
+            push_mono(words, shown, first)?;
+            push_further_monos(words, shown, others)?;
             push_further_number(words, term.constant < 0, term.constant.unsigned_abs())
         }
     }

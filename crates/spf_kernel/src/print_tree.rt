@@ -8,7 +8,7 @@ use crate::print_list::push_separator;
 use crate::print_statement::push_loop;
 use crate::print_term::push_term;
 use crate::tree::{DataDecl, Decl, Loop, Tree, Trend};
-use crate::tree_names::{TreeNames, names_of_tree};
+use crate::tree_names::{Shown, TreeNames, names_of_tree};
 use spf_base::{Name, NoMemory};
 use spf_lex::Words;
 use spf_term::Term;
@@ -24,7 +24,8 @@ fn push_head(
 ) -> Result<(), NoMemory>
     ensures { OnOk result (words.new ≡ words.old ++ term_words names.now [] term.now) }
 {
-    push_term(words, names, &Items::new(alloc), term)
+    let none = Items::new(alloc);
+    push_term(words, &Shown { names, vars: &none }, term)
 }
 
 /// Writes the name of an array and its size.

@@ -21,6 +21,7 @@ pub fn one_raw_tree()
 {}
 
 /// Law: the names that a kernel declares are words.
+#[tactic(auto, using(crate::proofs::NamesAreWords::names_are_words))]
 pub fn names_are_words()
     ensures { (texts : List (List ℕ)) (n m : ℕ) (front : List (Lexed Kind)) (raw : RawKernel) → All IsTokenText texts →
         drop n (tokens_of bundle_words texts) ≡ front ++ drop m (tokens_of bundle_words texts) → IsKernel front raw →

@@ -16,60 +16,43 @@ mod terms;
 mod values;
 mod variables;
 
-use crate::names::Names;
+use crate::names::Source;
 use crate::note::Scope;
 use crate::raw::{RawDecl, RawKernel, RawLoop};
 use crate::tree::{Decl, Loop, Tree};
 use spf_base::NoMemory;
-use spf_lex::Tokens;
 use sqlite_items::Items;
-use std::alloc::Global;
 
-fn resolve_decls(
-    alloc: Global,
-    tokens: &Tokens,
-    names: &Names,
-    decls: &[RawDecl],
-) -> Result<Items<Decl>, NoMemory>
-    requires { AreNames (texts tokens.now) (flat_map decl_notes decls.now) }
-    ensures { IfOk result (λ all. all ≡ map (decl_of (texts tokens.now) names.now) decls.now) }
+fn resolve_decls(source: &Source, decls: &[RawDecl]) -> Result<Items<Decl>, NoMemory>
+    requires { AreNames (texts source.now.tokens.now) (flat_map decl_notes decls.now) }
+    ensures { IfOk result (λ all. all ≡ map (decl_of (texts source.now.tokens.now) source.now.names.now) decls.now) }
 {
-    let mut all = Items::new(alloc);
+    let mut all = Items::new(source.alloc);
     for decl in decls {
-        all.push(declarations::resolve_decl(alloc, tokens, names, decl)?)?;
+        all.push(declarations::resolve_decl(source, decl)?)?;
     }
     Ok(all)
 }
 
-fn resolve_loops(
-    alloc: Global,
-    tokens: &Tokens,
-    names: &Names,
-    loops: &[RawLoop],
-) -> Result<Items<Loop>, NoMemory>
-    requires { AreNames (texts tokens.now) (flat_map loop_notes loops.now) }
-    ensures { IfOk result (λ all. all ≡ map (loop_of (texts tokens.now) names.now) loops.now) }
+fn resolve_loops(source: &Source, loops: &[RawLoop]) -> Result<Items<Loop>, NoMemory>
+    requires { AreNames (texts source.now.tokens.now) (flat_map loop_notes loops.now) }
+    ensures { IfOk result (λ all. all ≡ map (loop_of (texts source.now.tokens.now) source.now.names.now) loops.now) }
 {
-    let mut all = Items::new(alloc);
+    let mut all = Items::new(source.alloc);
     for item in loops {
-        all.push(loops::resolve_loop(alloc, tokens, names, item)?)?;
+        all.push(loops::resolve_loop(source, item)?)?;
     }
     Ok(all)
 }
 
 /// The tree that a kernel means, where these are its names. Linear in the kernel.
-pub(crate) fn resolve(
-    alloc: Global,
-    tokens: &Tokens,
-    names: &Names,
-    kernel: &RawKernel,
-) -> Result<Tree, NoMemory>
-    requires { All (λ t. IsName (text_of (texts tokens.now) t)) (tokens_that is_naming (kernel_notes kernel.now)) }
-    ensures { IfOk result (λ tree. tree ≡ tree_of (texts tokens.now) names.now kernel.now) }
+pub(crate) fn resolve(source: &Source, kernel: &RawKernel) -> Result<Tree, NoMemory>
+    requires { All (λ t. IsName (text_of (texts source.now.tokens.now) t)) (tokens_that is_naming (kernel_notes kernel.now)) }
+    ensures { IfOk result (λ tree. tree ≡ tree_of (texts source.now.tokens.now) source.now.names.now kernel.now) }
 {
-    let decls = resolve_decls(alloc, tokens, names, kernel.decls.as_slice())?;
-    let steps = terms::resolve_ix(alloc, tokens, names, Scope::Nothing, &kernel.steps)?;
-    let loops = resolve_loops(alloc, tokens, names, kernel.loops.as_slice())?;
+    let decls = resolve_decls(source, kernel.decls.as_slice())?;
+    let steps = terms::resolve_ix(source, Scope::Nothing, &kernel.steps)?;
+    let loops = resolve_loops(source, kernel.loops.as_slice())?;
     Ok(Tree {
         decls,
         steps,

@@ -31,7 +31,7 @@ impl Part<Kind> for RawAssign {
     }
 
     #[tactic(auto, unfolding(crate::specs::Productions::assign))]
-    fn read(alloc: Global, tokens: &mut Cursor<Kind>) -> Result<RawAssign, ReadFault> {
+    fn parse(alloc: Global, tokens: &mut Cursor<Kind>) -> Result<RawAssign, ReadFault> {
         let array = tokens.expect(Kind::Name)?;
         let at = in_brackets(alloc, tokens)?;
         let adds = becomes(tokens)?;
@@ -72,7 +72,7 @@ impl Part<Kind> for RawCond {
     }
 
     #[tactic(auto, unfolding(crate::specs::Productions::cond))]
-    fn read(alloc: Global, tokens: &mut Cursor<Kind>) -> Result<RawCond, ReadFault> {
+    fn parse(alloc: Global, tokens: &mut Cursor<Kind>) -> Result<RawCond, ReadFault> {
         let left = ix(alloc, tokens, BRACKETS)?;
         let sign = compare(tokens)?;
         let right = ix(alloc, tokens, BRACKETS)?;
@@ -113,7 +113,7 @@ impl Part<Kind> for RawPart {
     }
 
     #[tactic(auto, unfolding(crate::specs::Productions::part))]
-    fn read(alloc: Global, tokens: &mut Cursor<Kind>) -> Result<RawPart, ReadFault> {
+    fn parse(alloc: Global, tokens: &mut Cursor<Kind>) -> Result<RawPart, ReadFault> {
         if RawAssign::begins(tokens) {
             Ok(RawPart::Assign(RawAssign::read(alloc, tokens)?))
         } else {
@@ -143,7 +143,7 @@ impl Part<Kind> for RawItem {
     }
 
     #[tactic(auto, unfolding(crate::specs::Productions::item))]
-    fn read(alloc: Global, tokens: &mut Cursor<Kind>) -> Result<RawItem, ReadFault> {
+    fn parse(alloc: Global, tokens: &mut Cursor<Kind>) -> Result<RawItem, ReadFault> {
         if RawPart::begins(tokens) {
             Ok(RawItem::Part(RawPart::read(alloc, tokens)?))
         } else {
@@ -164,7 +164,7 @@ impl Part<Kind> for RawLoop {
 
     /// A loop, with all that stands in it.
     #[tactic(auto, unfolding(crate::specs::Productions::one_loop))]
-    fn read(alloc: Global, tokens: &mut Cursor<Kind>) -> Result<RawLoop, ReadFault> {
+    fn parse(alloc: Global, tokens: &mut Cursor<Kind>) -> Result<RawLoop, ReadFault> {
         tokens.expect(Kind::Loop)?;
         let name = tokens.expect(Kind::Name)?;
         tokens.expect(Kind::OpenParenthesis)?;

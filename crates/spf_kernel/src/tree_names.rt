@@ -17,6 +17,13 @@ pub struct TreeNames {
     pub arrays: Items<Name>,
 }
 
+/// The names by which numbers are printed: those that declarations give, and those of the variables in scope.
+#[derive(Drop)]
+pub struct Shown<'a> {
+    pub names: &'a TreeNames,
+    pub vars: &'a Items<Name>,
+}
+
 /// Writes the name of this number, or an empty word where there is none.
 pub fn push_name_at(words: &mut Words, names: &Items<Name>, number: u32) -> Result<(), NoMemory>
     ensures { OnOk result (words.new ≡ words.old ++ name_at names.now number ∷ []) }

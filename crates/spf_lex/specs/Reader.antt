@@ -18,7 +18,17 @@ Reads outcome (Ok a) rest = outcome ≡ Ok (a, rest)
 Reads outcome (Err Syntax) rest = outcome ≡ Err rest
 Reads outcome (Err Memory) rest = ⊤
 
--- the same of a reader that takes no memory
+-- where memory ran out, the tokens that are left are those that were
+abbrev pub Stays : {K A : Type 0} → List (Lexed K) → Result A ReadFault → List (Lexed K) → Type 0
+Stays tokens (Err Memory) rest = rest ≡ tokens
+Stays tokens result rest = ⊤
+
+-- the tokens that are left are those that a fork left, or where memory ran out those that were
+abbrev pub Follows : {K A : Type 0} → List (Lexed K) → List (Lexed K) → Result A ReadFault → List (Lexed K) → Type 0
+Follows tokens fork (Err Memory) rest = rest ≡ tokens
+Follows tokens fork result rest = rest ≡ fork
+
+-- what a reader that takes no memory does
 abbrev pub Takes : {K A : Type 0} → Outcome (Lexed K) A → Result A Unexpected → List (Lexed K) → Type 0
 Takes outcome (Ok a) rest = outcome ≡ Ok (a, rest)
 Takes outcome (Err unexpected) rest = outcome ≡ Err rest

@@ -1,12 +1,12 @@
 //! A cursor over the tokens of a text, which gives each its kind as it is reached.
 
-ghost use Rattle.std.specs.Prelude.{◌≡◌, ◌≤◌, drop, length, IfErr};
+ghost use Rattle.std.specs.Prelude.{◌≡◌, ◌≤◌, drop, length};
 ghost use Rattle.std.specs.List.{list_any};
 ghost use Rattle.spf_lex.specs.Cursor.{next_in};
 ghost use Rattle.spf_lex.specs.Language.{tokens_of, value_in};
 ghost use Rattle.spf_lex.specs.Language as language;
 ghost use Rattle.spf_lex.specs.Production.{text_of_token, token};
-ghost use Rattle.spf_lex.specs.Reader.{Reads, Takes, after, sees};
+ghost use Rattle.spf_lex.specs.Reader.{Follows, Reads, Stays, Takes, after, sees};
 ghost use Rattle.spf_lex.specs.Reading.{is_next_of};
 ghost use Rattle.spf_lex.specs.Tokens.{texts};
 
@@ -145,6 +145,35 @@ impl<'a, K: TokenKind> Cursor<'a, K> {
         }
     }
 
+    /// Another cursor at the same token.
+    pub fn fork(&self) -> Cursor<'a, K>
+        ensures { result ≡ self.now }
+    {
+        Cursor {
+            tokens: self.tokens,
+            at: self.at,
+            next: self.next,
+        }
+    }
+
+    /// Goes to where a fork has read a part, or stays where memory ran out on the way.
+    pub fn follow<A>(
+        &mut self,
+        fork: Cursor<'a, K>,
+        part: Result<A, ReadFault>,
+    ) -> Result<A, ReadFault>
+        ensures part { result ≡ part }
+        ensures rest { Follows self.old fork.entry part self.new }
+    {
+        match part {
+            Err(ReadFault::Memory) => Err(ReadFault::Memory),
+            part => {
+                *self = fork;
+                part
+            }
+        }
+    }
+
     /// How many tokens are left.
     pub fn left(&self) -> u32
         ensures { result ≡ length self.now }
@@ -211,10 +240,10 @@ impl<'a, K: TokenKind> Cursor<'a, K> {
         }
     }
 
-    /// Takes a name, which has to come next, and copies it. Linear in the name. After `ReadFault::Memory` the cursor is as it was.
+    /// Takes a name, which has to come next, and copies it. Linear in the name.
     pub fn name(&mut self, alloc: Global) -> Result<Name, ReadFault>
         ensures name { Reads ((text_of_token {same = K.same} K.language.name).read self.old) result self.new }
-        ensures memory { IfErr result (λ _. self.new ≡ self.old) }
+        ensures memory { Stays self.old result self.new }
     {
         if !self.sees(K::name()) {
             return Err(ReadFault::Syntax);

@@ -2,7 +2,7 @@
 
 ghost use Rattle.std.specs.Prelude.{◌≡◌, ◌≤◌, length};
 ghost use Rattle.spf_lex.specs.Standing.{FindsBy, ReadsAllBy, kind_from, place_from};
-ghost use Rattle.spf_lex.specs.Tokens.{texts};
+ghost use Rattle.spf_lex.specs.Tokens.{IsTokenized, texts};
 ghost use Rattle.spf_lex.specs.declared.parts.PartFault.TheVariants.{Syntax};
 
 use crate::cursor::{Cursor, ReadFault};
@@ -64,19 +64,22 @@ pub fn part_at<K: TokenKind, P: TextPart<K>>(
     from: u32,
 ) -> Result<(P, u32), PartFault>
     requires { from ≤ length (texts tokens.now) }
-    ensures { FindsBy K.language tokens.now P.reading from result }
+    ensures found { FindsBy K.language tokens.now P.reading from result }
+    ensures lexed { IsTokenized tokens.now.text tokens.now.spans }
 {
+    let count = tokens.len();
     let mut cursor = Cursor::new(tokens, from);
-    match P::read(alloc, &mut cursor) {
-        Ok(part) => Ok((part, tokens.len() - cursor.left())),
-        Err(ReadFault::Syntax) => Err(syntax_at(tokens, tokens.len() - cursor.left())),
+    match P::parse(alloc, &mut cursor) {
+        Ok(part) => Ok((part, count - cursor.left())),
+        Err(ReadFault::Syntax) => Err(syntax_at(tokens, count - cursor.left())),
         Err(ReadFault::Memory) => Err(PartFault::Memory),
     }
 }
 
 /// The part that all tokens are. Linear in the tokens.
 pub fn whole<K: TokenKind, P: TextPart<K>>(alloc: Global, tokens: &Tokens) -> Result<P, PartFault>
-    ensures { ReadsAllBy K.language tokens.now P.reading result }
+    ensures found { ReadsAllBy K.language tokens.now P.reading result }
+    ensures lexed { IsTokenized tokens.now.text tokens.now.spans }
 {
     let (part, next) = part_at(alloc, tokens, 0)?;
     if next < tokens.len() {

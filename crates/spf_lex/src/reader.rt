@@ -3,7 +3,7 @@
 ghost use Rattle.std.specs.Prelude.{◌≡◌, ◌++◌, Bool, List, map};
 ghost use Rattle.spf_lex.specs.Derivation.{made};
 ghost use Rattle.spf_lex.specs.Language.{Lexed};
-ghost use Rattle.spf_lex.specs.Reader.{Reader, Reads, Takes, enclosed, further, keyword, list_by, repeat, sees};
+ghost use Rattle.spf_lex.specs.Reader.{Reader, Reads, Stays, Takes, enclosed, further, keyword, list_by, repeat, sees};
 
 use crate::cursor::{Cursor, ReadFault, Token, Unexpected};
 use crate::language::TokenKind;
@@ -11,8 +11,7 @@ use spf_base::Name;
 use sqlite_items::Items;
 use std::alloc::Global;
 
-/// What a production of a language makes, and its reader. After `ReadFault::Memory` the cursor may stand anywhere in the
-/// part.
+/// What a production of a language makes, and its reader. A language writes `begins` and `parse`, and calls `read`.
 pub trait Part<K: TokenKind>: Drop {
     ghost begins: { List (Lexed K) → Bool };
 
@@ -22,9 +21,19 @@ pub trait Part<K: TokenKind>: Drop {
     fn begins(tokens: &Cursor<K>) -> bool
         ensures { result ≡ begins tokens.now };
 
-    /// Reads such a part.
-    fn read(alloc: Global, tokens: &mut Cursor<K>) -> Result<Self, ReadFault>
+    /// Reads such a part with a cursor that is let go of where memory runs out.
+    fn parse(alloc: Global, tokens: &mut Cursor<K>) -> Result<Self, ReadFault>
         ensures { Reads (reading tokens.old) result tokens.new };
+
+    /// Reads such a part. Where memory runs out, the cursor is as it was.
+    fn read(alloc: Global, tokens: &mut Cursor<K>) -> Result<Self, ReadFault>
+        ensures part { Reads (reading tokens.old) result tokens.new }
+        ensures memory { Stays tokens.old result tokens.new }
+    {
+        let mut fork = tokens.fork();
+        let part = Self::parse(alloc, &mut fork);
+        tokens.follow(fork, part)
+    }
 }
 
 impl<K: TokenKind> Part<K> for Token {
@@ -40,7 +49,7 @@ impl<K: TokenKind> Part<K> for Token {
     }
 
     /// Takes a name.
-    fn read(_alloc: Global, tokens: &mut Cursor<K>) -> Result<Token, ReadFault> {
+    fn parse(_alloc: Global, tokens: &mut Cursor<K>) -> Result<Token, ReadFault> {
         Ok(tokens.expect(K::name())?)
     }
 }
@@ -58,13 +67,12 @@ impl<K: TokenKind> Part<K> for Name {
     }
 
     /// Takes a name and copies it.
-    fn read(alloc: Global, tokens: &mut Cursor<K>) -> Result<Name, ReadFault> {
+    fn parse(alloc: Global, tokens: &mut Cursor<K>) -> Result<Name, ReadFault> {
         tokens.name(alloc)
     }
 }
 
-/// Reads parts as long as one begins. Linear in their tokens.
-pub fn repeated<K: TokenKind, P: Part<K>>(
+fn parse_repeated<K: TokenKind, P: Part<K>>(
     alloc: Global,
     tokens: &mut Cursor<K>,
 ) -> Result<Items<P>, ReadFault>
@@ -75,14 +83,26 @@ pub fn repeated<K: TokenKind, P: Part<K>>(
         if !P::begins(tokens) {
             return Ok(parts);
         }
-        let part = P::read(alloc, tokens)?;
+        let part = P::parse(alloc, tokens)?;
         parts.push(part)?;
     }
     Ok(parts)
 }
 
-/// Reads parts as long as one begins, between a token of one kind and a token of the other. Linear in their tokens.
-pub fn enclosed<K: TokenKind, P: Part<K>>(
+/// Reads parts as long as one begins. Where memory runs out, the cursor is as it was. Linear in their tokens.
+pub fn repeated<K: TokenKind, P: Part<K>>(
+    alloc: Global,
+    tokens: &mut Cursor<K>,
+) -> Result<Items<P>, ReadFault>
+    ensures parts { Reads (repeat P.begins P.reading tokens.old) result tokens.new }
+    ensures memory { Stays tokens.old result tokens.new }
+{
+    let mut fork = tokens.fork();
+    let parts = parse_repeated(alloc, &mut fork);
+    tokens.follow(fork, parts)
+}
+
+fn parse_enclosed<K: TokenKind, P: Part<K>>(
     alloc: Global,
     tokens: &mut Cursor<K>,
     opening: K,
@@ -91,9 +111,25 @@ pub fn enclosed<K: TokenKind, P: Part<K>>(
     ensures { Reads (enclosed K.same opening closing (repeat P.begins P.reading) tokens.old) result tokens.new }
 {
     tokens.expect(opening)?;
-    let parts = repeated(alloc, tokens)?;
+    let parts = parse_repeated(alloc, tokens)?;
     tokens.expect(closing)?;
     Ok(parts)
+}
+
+/// Reads parts as long as one begins, between a token of one kind and a token of the other. Where memory runs out, the
+/// cursor is as it was. Linear in their tokens.
+pub fn enclosed<K: TokenKind, P: Part<K>>(
+    alloc: Global,
+    tokens: &mut Cursor<K>,
+    opening: K,
+    closing: K,
+) -> Result<Items<P>, ReadFault>
+    ensures parts { Reads (enclosed K.same opening closing (repeat P.begins P.reading) tokens.old) result tokens.new }
+    ensures memory { Stays tokens.old result tokens.new }
+{
+    let mut fork = tokens.fork();
+    let parts = parse_enclosed(alloc, &mut fork, opening, closing);
+    tokens.follow(fork, parts)
 }
 
 /// Reads a part behind a token of this kind.
@@ -105,7 +141,7 @@ fn further<K: TokenKind, P: Part<K>>(
     ensures { Reads (further K.same kind P.reading tokens.old) result tokens.new }
 {
     tokens.expect(kind)?;
-    P::read(alloc, tokens)
+    P::parse(alloc, tokens)
 }
 
 /// Reads further parts onto a list, each behind a token of this kind.
@@ -127,19 +163,33 @@ fn further_parts<K: TokenKind, P: Part<K>>(
     Ok(parts)
 }
 
-/// Reads a part, and further ones behind a token of this kind each. Linear in their tokens.
 #[tactic(auto, unfolding(crate::specs::Reader::list_by))]
-pub fn separated<K: TokenKind, P: Part<K>>(
+fn parse_separated<K: TokenKind, P: Part<K>>(
     alloc: Global,
     tokens: &mut Cursor<K>,
     kind: K,
 ) -> Result<Items<P>, ReadFault>
     ensures { Reads (list_by K.same kind P.reading tokens.old) result tokens.new }
 {
-    let first = P::read(alloc, tokens)?;
+    let first = P::parse(alloc, tokens)?;
     let mut parts = Items::new(alloc);
     parts.push(first)?;
     further_parts(alloc, tokens, kind, parts)
+}
+
+/// Reads a part, and further ones behind a token of this kind each. Where memory runs out, the cursor is as it was. Linear
+/// in their tokens.
+pub fn separated<K: TokenKind, P: Part<K>>(
+    alloc: Global,
+    tokens: &mut Cursor<K>,
+    kind: K,
+) -> Result<Items<P>, ReadFault>
+    ensures parts { Reads (list_by K.same kind P.reading tokens.old) result tokens.new }
+    ensures memory { Stays tokens.old result tokens.new }
+{
+    let mut fork = tokens.fork();
+    let parts = parse_separated(alloc, &mut fork, kind);
+    tokens.follow(fork, parts)
 }
 
 /// Takes a token of a kind of the table, and gives the value beside it. Linear in the table.

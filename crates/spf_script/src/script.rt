@@ -74,7 +74,6 @@ pub fn parse(alloc: Global, tokens: &Tokens, from: u32) -> Result<(Script, u32),
     requires { from ≤ length (texts tokens.now) }
     ensures { IsAnswer tokens.now from result }
 {
-    let _count = tokens.len();
     match part_at::<Kind, Steps>(alloc, tokens, from) {
         Ok((steps, next)) => Ok((script_of(tokens, from, next, steps), next)),
         Err(PartFault::Syntax { place, kind }) => Err(ScriptTextFault::Syntax { place, kind }),

@@ -170,7 +170,7 @@ impl Part<Kind> for TextStep {
         begins_step(tokens)
     }
 
-    fn read(alloc: Global, tokens: &mut Cursor<Kind>) -> Result<TextStep, ReadFault> {
+    fn parse(alloc: Global, tokens: &mut Cursor<Kind>) -> Result<TextStep, ReadFault> {
         step(alloc, tokens)
     }
 }
@@ -225,7 +225,7 @@ impl Part<Kind> for Steps {
         begins_script(tokens)
     }
 
-    fn read(alloc: Global, tokens: &mut Cursor<Kind>) -> Result<Steps, ReadFault> {
+    fn parse(alloc: Global, tokens: &mut Cursor<Kind>) -> Result<Steps, ReadFault> {
         script(alloc, tokens)
     }
 }

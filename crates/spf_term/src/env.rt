@@ -21,8 +21,8 @@ impl Model for Env {
     ghost view = { λ env. record { params = env.params.items; tables = map vec_items env.tables.items } };
 }
 
-/// The number at a place, and 0 outside.
-pub(crate) fn number_at(numbers: &[i64], place: i64) -> i64
+/// The number at a place, and 0 outside. Constant time.
+pub fn number_at(numbers: &[i64], place: i64) -> i64
     ensures { result ≡ number_at numbers.now place }
 {
     match usize::try_from(place) {
@@ -32,8 +32,8 @@ pub(crate) fn number_at(numbers: &[i64], place: i64) -> i64
 }
 
 impl Env {
-    /// The table with this number, and an empty one where it isn't there.
-    pub(crate) fn table(&self, number: u32) -> &[i64]
+    /// The table with this number, and an empty one where it isn't there. Constant time.
+    pub fn table(&self, number: u32) -> &[i64]
         ensures { result.now ≡ table_at self.now number }
     {
         match self.tables.get(number as usize) {

@@ -19,7 +19,7 @@ mod walks;
 
 pub use bounded::bounded_terms_are_small;
 pub use counts::applications;
-pub use env::Env;
+pub use env::{Env, number_at};
 pub use term::{Atom, Mono, Term};
 pub use values::value;
 pub use walks::{Reader, Walked, walk};

@@ -6,15 +6,14 @@ ghost use Rattle.spf_lex.specs.Tokens.{texts};
 ghost use Rattle.spf_kernel.specs.Facts.{text_of, variables_in};
 ghost use Rattle.spf_kernel.specs.Resolved.{signed, alone_of, constant_of, variable_of, bare_atom, atom_of, monos_of, term_of};
 
-use crate::names::{Names, text_of};
+use crate::names::{Source, text_of};
 use crate::note::Scope;
 use crate::raw::{RawAtom, RawIx, RawMono};
 use crate::resolve::variables::variable;
 use spf_base::{NoMemory, wadd, wsub};
-use spf_lex::{Token, Tokens};
+use spf_lex::Token;
 use spf_term::{Atom, Mono, Term};
 use sqlite_items::Items;
-use std::alloc::Global;
 
 /// The number with the sign in front of it.
 fn signed(minus: bool, number: u64) -> i64
@@ -50,58 +49,50 @@ fn constant(ix: &RawIx) -> i64
 }
 
 /// A name without brackets.
-fn bare_atom(tokens: &Tokens, names: &Names, scope: Scope, name: Token) -> Atom
-    ensures { result ≡ bare_atom (texts tokens.now) names.now (variable_of (variables_in (texts tokens.now) scope) (text_of (texts tokens.now) name)) name }
+fn bare_atom(source: &Source, scope: Scope, name: Token) -> Atom
+    ensures { result ≡ bare_atom (texts source.now.tokens.now) source.now.names.now (variable_of (variables_in (texts source.now.tokens.now) scope) (text_of (texts source.now.tokens.now) name)) name }
 {
-    match variable(tokens, scope, name) {
+    match variable(source.tokens, scope, name) {
         Some(variable) => Atom::Var(variable),
-        None => Atom::Param(names.param(text_of(tokens, name))),
+        None => Atom::Param(source.names.param(text_of(source.tokens, name))),
     }
 }
 
 #[cycle(resolve_ix)]
-fn resolve_atom(
-    alloc: Global,
-    tokens: &Tokens,
-    names: &Names,
-    scope: Scope,
-    atom: &RawAtom,
-) -> Result<Atom, NoMemory>
-    ensures { IfOk result (λ found. found ≡ atom_of (texts tokens.now) names.now scope atom.now) }
+fn resolve_atom(source: &Source, scope: Scope, atom: &RawAtom) -> Result<Atom, NoMemory>
+    ensures { IfOk result (λ found. found ≡ atom_of (texts source.now.tokens.now) source.now.names.now scope atom.now) }
 {
     match &atom.at {
         Some(at) => Ok(Atom::App {
-            fun: names.table(text_of(tokens, atom.name)),
-            arg: resolve_ix(alloc, tokens, names, scope, at.get())?,
+            fun: source.names.table(text_of(source.tokens, atom.name)),
+            arg: resolve_ix(source, scope, at.get())?,
         }),
-        None => Ok(bare_atom(tokens, names, scope, atom.name)),
+        None => Ok(bare_atom(source, scope, atom.name)),
     }
 }
 
 /// Adds the monomial, where it has an atom.
 #[cycle(resolve_ix)]
 fn add_mono(
-    alloc: Global,
-    tokens: &Tokens,
-    names: &Names,
+    source: &Source,
     scope: Scope,
     minus: bool,
     mono: &RawMono,
     monos: &mut Items<Mono>,
 ) -> Result<(), NoMemory>
-    ensures { OnOk result (monos.new ≡ monos.old ++ monos_of (texts tokens.now) names.now scope minus mono.now) }
+    ensures { OnOk result (monos.new ≡ monos.old ++ monos_of (texts source.now.tokens.now) source.now.names.now scope minus mono.now) }
 {
     match mono {
         RawMono::Number(_, None) => Ok(()),
         RawMono::Number(number, Some(atom)) => {
             let coef = signed(minus, number.value);
-            let atom = resolve_atom(alloc, tokens, names, scope, atom)?;
+            let atom = resolve_atom(source, scope, atom)?;
             monos.push(Mono { coef, atom })?;
             Ok(())
         }
         RawMono::Atom(atom) => {
             let coef = signed(minus, 1);
-            let atom = resolve_atom(alloc, tokens, names, scope, atom)?;
+            let atom = resolve_atom(source, scope, atom)?;
             monos.push(Mono { coef, atom })?;
             Ok(())
         }
@@ -110,19 +101,13 @@ fn add_mono(
 
 /// The term that an index expression means. Linear in it.
 #[cycle(resolve_ix)]
-pub(super) fn resolve_ix(
-    alloc: Global,
-    tokens: &Tokens,
-    names: &Names,
-    scope: Scope,
-    ix: &RawIx,
-) -> Result<Term, NoMemory>
-    ensures { IfOk result (λ term. term ≡ term_of (texts tokens.now) names.now scope ix.now) }
+pub(super) fn resolve_ix(source: &Source, scope: Scope, ix: &RawIx) -> Result<Term, NoMemory>
+    ensures { IfOk result (λ term. term ≡ term_of (texts source.now.tokens.now) source.now.names.now scope ix.now) }
 {
-    let mut monos = Items::new(alloc);
+    let mut monos = Items::new(source.alloc);
     for step in ix.steps.as_slice() {
         let minus = step.minus.is_some();
-        add_mono(alloc, tokens, names, scope, minus, &step.mono, &mut monos)?;
+        add_mono(source, scope, minus, &step.mono, &mut monos)?;
     }
     Ok(Term {
         monos,

@@ -1,7 +1,5 @@
-use Rattle.std.proofs.Common.{arith}
-use Rattle.spf_kernel.specs.declared.tree.DataDecl.{DataDecl}
+use Rattle.spf_kernel.proofs.Common.{arith, DataDecl, arrays_of}
 use Rattle.spf_kernel.proofs.accessors.data_name_at.Goals as goal
-use Rattle.spf_kernel.specs.TreeNames.{arrays_of}
 use Rattle.spf_kernel.proofs.Pieces.{in_piece, past_pieces}
 
 pub returns-then-left-arrays : goal.returns-then-left-arrays

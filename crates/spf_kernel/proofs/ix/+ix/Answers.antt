@@ -1,6 +1,4 @@
-use Rattle.std.proofs.Common.{arith, sym}
-use Rattle.spf_lex.specs.Production.{begins}
-use Rattle.spf_lex.proofs.Repeating.{from_parts, goes_on}
+use Rattle.spf_kernel.proofs.Common.{arith, sym, begins, from_parts, goes_on}
 use Rattle.spf_kernel.proofs.ix.+ix.Goals as goal
 use Rattle.spf_kernel.specs.Productions.{atom, next_step}
 use Rattle.spf_kernel.proofs.Depths.{atom_deep}

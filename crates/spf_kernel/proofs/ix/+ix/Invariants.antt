@@ -1,8 +1,4 @@
-use Rattle.std.proofs.Common.{◌≡◌, ◌+◌, ◌*◌, ◌-◌, ◌++◌}
-use Rattle.spf_lex.specs.Derivation.{made}
-use Rattle.spf_lex.specs.Production.{begins}
-use Rattle.spf_lex.specs.Reader.{repeat}
-use Rattle.spf_lex.proofs.Repeating.{Rest}
+use Rattle.spf_kernel.proofs.Common.{◌≡◌, ◌+◌, ◌*◌, ◌-◌, ◌++◌, made, begins, repeat, Rest}
 use Rattle.spf_kernel.proofs.ix.+ix.Given as goal
 use Rattle.spf_kernel.specs.Productions.{atom, next_step}
 

@@ -1,8 +1,5 @@
-use Rattle.std.proofs.Common.{List, Ok, Err, subst, ◌∙◌}
-use Rattle.spf_lex.specs.Tokens.{texts}
-use Rattle.spf_kernel.specs.declared.note.Note.{Note}
+use Rattle.spf_kernel.proofs.Common.{List, Ok, Err, subst, ◌∙◌, texts, Note, Checked}
 use Rattle.spf_kernel.proofs.kernel.judge.Goals as goal
-use Rattle.spf_kernel.specs.Checked.{Checked}
 use Rattle.spf_kernel.proofs.Parsing.{kept}
 
 pub kernel_of-requires-clause-checked : goal.kernel_of-requires-clause-checked

@@ -1,10 +1,6 @@
-use Rattle.std.proofs.Common.{List, ℕ, ◌≡◌, sym, ap, ◌∙◌, subst}
+use Rattle.spf_kernel.proofs.Common.{List, ℕ, ◌≡◌, sym, ap, ◌∙◌, subst, joined, Tree, IsTextOf, words_of}
 use Rattle.std.proofs.lemmas.Result.{IfOk-weaker}
-use Rattle.spf_lex.specs.Joined.{joined}
-use Rattle.spf_kernel.specs.declared.tree.Tree.{Tree}
 use Rattle.spf_kernel.proofs.kernel.print.Goals as goal
-use Rattle.spf_kernel.specs.Parsed.{IsTextOf}
-use Rattle.spf_kernel.specs.Printed.{words_of}
 use Rattle.spf_kernel.proofs.PrintedParses.{printed_parses}
 
 pub returns-clause-parsed : goal.returns-clause-parsed

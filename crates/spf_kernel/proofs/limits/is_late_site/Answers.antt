@@ -1,6 +1,5 @@
-use Rattle.std.proofs.Common.{◌≡◌, ◌∙◌, ap, true, nat_le, ◌&&◌}
+use Rattle.spf_kernel.proofs.Common.{◌≡◌, ◌∙◌, ap, true, nat_le, ◌&&◌, is_site, count_that}
 use Rattle.spf_kernel.proofs.limits.is_late_site.Goals as goal
-use Rattle.spf_kernel.specs.Rules.{is_site, count_that}
 use Rattle.spf_kernel.proofs.Counting.{is_counted}
 
 pub returns-then-is_site : goal.returns-then-is_site

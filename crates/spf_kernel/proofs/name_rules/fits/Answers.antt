@@ -1,6 +1,5 @@
-use Rattle.spf_lex.specs.Tokens.{texts}
+use Rattle.spf_kernel.proofs.Common.{texts, variables_in}
 use Rattle.spf_kernel.proofs.name_rules.fits.Goals as goal
-use Rattle.spf_kernel.specs.Facts.{variables_in}
 
 pub returns-then-brackets : goal.returns-then-brackets
 returns-then-brackets c = λ facts e. rw c.if-brackets.true (c.fits_with_brackets.ensures facts (variables_in (texts c.args.tokens.now) c.args.scope) e)

@@ -1,6 +1,4 @@
-use Rattle.std.proofs.Common.{refl, ◌∙◌}
-use Rattle.std.proofs.Common.{◌≡◌}
-use Rattle.spf_kernel.specs.Rules.{is_table, declares}
+use Rattle.spf_kernel.proofs.Common.{refl, ◌∙◌, ◌≡◌, is_table, declares}
 use Rattle.spf_kernel.proofs.Declared.{or_false, known_from}
 use Rattle.spf_kernel.proofs.name_rules.fits_with_brackets.Goals as goal
 

@@ -1,8 +1,5 @@
-use Rattle.std.proofs.Common.{◌≡◌, ◌+◌, [], ◌∷◌, ◌++◌, flat_map, take, arith, length-append}
-use Rattle.std.proofs.lemmas.Grind.{common_steps}
+use Rattle.spf_kernel.proofs.Common.{◌≡◌, ◌+◌, [], ◌∷◌, ◌++◌, flat_map, take, arith, length-append, common_steps, on_ok_weaker, mono_monomials, atom_monomials}
 use Rattle.spf_kernel.proofs.notes.+excess.Goals as goal
-use Rattle.std.proofs.lemmas.Result.{on_ok_weaker}
-use Rattle.spf_kernel.specs.Notes.{mono_monomials, atom_monomials}
 use Rattle.spf_kernel.proofs.NoteEquations.{step_monomials, more_excess, ix_monomials_are, atom_monomials_are}
 
 pub excess_in_atom-returns-in-Some-clause-notes : goal.excess_in_atom-returns-in-Some-clause-notes

@@ -1,6 +1,5 @@
-use Rattle.std.proofs.Common.{◌≡◌, ◌-◌, ◌++◌, length, take, flat_map}
+use Rattle.spf_kernel.proofs.Common.{◌≡◌, ◌-◌, ◌++◌, length, take, flat_map, excess_notes}
 use Rattle.spf_kernel.proofs.notes.+excess.Given as goal
-use Rattle.spf_kernel.specs.Notes.{excess_notes}
 use Rattle.spf_kernel.proofs.NoteEquations.{step_monomials}
 
 abbrev pub invariant-excess_in_ix-loop-step : goal.invariant-excess_in_ix-loop-step

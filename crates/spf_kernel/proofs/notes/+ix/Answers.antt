@@ -1,5 +1,4 @@
-use Rattle.std.proofs.Common.{arith}
-use Rattle.std.proofs.lemmas.Grind.{common_steps}
+use Rattle.spf_kernel.proofs.Common.{arith, common_steps}
 use Rattle.spf_kernel.proofs.NoteEquations.{ix_notes_are, atom_notes_are}
 use Rattle.spf_kernel.proofs.notes.+ix.Goals as goal
 

@@ -1,5 +1,4 @@
-use Rattle.std.proofs.Common.{arith}
-use Rattle.std.proofs.lemmas.Grind.{common_steps}
+use Rattle.spf_kernel.proofs.Common.{arith, common_steps}
 use Rattle.spf_kernel.proofs.notes.+value.Goals as goal
 use Rattle.spf_kernel.proofs.NoteEquations.{value_notes_are, paren_notes_are}
 

@@ -1,6 +1,5 @@
-use Rattle.std.proofs.Common.{◌≡◌, ◌++◌, take, flat_map}
+use Rattle.spf_kernel.proofs.Common.{◌≡◌, ◌++◌, take, flat_map, fact_notes}
 use Rattle.spf_kernel.proofs.notes.+value.Given as goal
-use Rattle.spf_kernel.specs.Notes.{fact_notes}
 use Rattle.spf_kernel.proofs.NoteEquations.{summand_notes}
 
 abbrev pub invariant-note_summand-loop-fact : goal.invariant-note_summand-loop-fact

@@ -1,4 +1,4 @@
-use Rattle.std.proofs.Common.{◌≡◌, ◌++◌, take, flat_map}
+use Rattle.spf_kernel.proofs.Common.{◌≡◌, ◌++◌, take, flat_map}
 use Rattle.spf_kernel.proofs.notes.note_loops.Given as goal
 use Rattle.spf_kernel.specs.Notes.{loop_notes}
 

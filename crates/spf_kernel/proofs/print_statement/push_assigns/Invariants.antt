@@ -1,6 +1,5 @@
-use Rattle.std.proofs.Common.{◌≡◌, ◌++◌, flat_map, take}
+use Rattle.spf_kernel.proofs.Common.{◌≡◌, ◌++◌, flat_map, take, assign_words}
 use Rattle.spf_kernel.proofs.print_statement.push_assigns.Given as goal
-use Rattle.spf_kernel.specs.Printed.{assign_words}
 
 abbrev pub invariant-loop-assign : goal.invariant-loop-assign
-invariant-loop-assign l = l.words ≡ l.fn.words ++ flat_map (assign_words l.names l.vars) (take l.assign-index l.assigns)
+invariant-loop-assign l = l.words ≡ l.fn.words ++ flat_map (assign_words l.shown.names.now l.shown.vars.now) (take l.assign-index l.assigns)

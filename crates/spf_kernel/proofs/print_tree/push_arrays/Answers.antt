@@ -1,7 +1,5 @@
-use Rattle.std.proofs.Common.{arith, codes}
-use Rattle.std.proofs.lemmas.Grind.{common_steps}
+use Rattle.spf_kernel.proofs.Common.{arith, codes, common_steps, array_words}
 use Rattle.spf_kernel.proofs.print_tree.push_arrays.Goals as goal
-use Rattle.spf_kernel.specs.Printed.{array_words}
 use Rattle.spf_kernel.proofs.PrintEquations.{separated_more}
 
 pub loop-n-preserved : goal.loop-n-preserved

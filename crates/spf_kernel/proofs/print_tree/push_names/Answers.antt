@@ -1,5 +1,4 @@
-use Rattle.std.proofs.Common.{◌∷◌, [], arith, codes}
-use Rattle.std.proofs.lemmas.Grind.{common_steps}
+use Rattle.spf_kernel.proofs.Common.{◌∷◌, [], arith, codes, common_steps}
 use Rattle.spf_kernel.proofs.print_tree.push_names.Goals as goal
 use Rattle.spf_kernel.proofs.PrintEquations.{separated_more}
 

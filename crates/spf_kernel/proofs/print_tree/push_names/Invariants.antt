@@ -1,4 +1,4 @@
-use Rattle.std.proofs.Common.{◌≡◌, ◌++◌, ◌∷◌, [], codes, take}
+use Rattle.spf_kernel.proofs.Common.{◌≡◌, ◌++◌, ◌∷◌, [], codes, take}
 use Rattle.spf_kernel.proofs.print_tree.push_names.Given as goal
 use Rattle.spf_kernel.specs.Printed.{separated}
 

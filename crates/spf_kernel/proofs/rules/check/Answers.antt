@@ -1,9 +1,5 @@
-use Rattle.std.proofs.Common.{arith, take, subst, ◌∙◌}
-use Rattle.std.proofs.lemmas.List.{length-take, length-map}
-use Rattle.spf_lex.specs.Tokens.{texts}
+use Rattle.spf_kernel.proofs.Common.{arith, take, subst, ◌∙◌, length-take, length-map, texts, IsFirst, fact_of, facts_of}
 use Rattle.spf_kernel.proofs.rules.check.Goals as goal
-use Rattle.spf_kernel.specs.Checked.{IsFirst}
-use Rattle.spf_kernel.specs.Facts.{fact_of, facts_of}
 use Rattle.spf_kernel.proofs.Adding.{counts_short}
 use Rattle.spf_kernel.proofs.Unbroken.{none_unbroken, are_names, are_short, at_end, further, sound}
 

@@ -1,9 +1,6 @@
-use Rattle.std.proofs.Common.{◌≡◌, take}
-use Rattle.spf_lex.specs.Tokens.{texts}
+use Rattle.spf_kernel.proofs.Common.{◌≡◌, take, texts, IsFirst, facts_of}
 use Rattle.spf_kernel.proofs.rules.check.Given as goal
 use Rattle.spf_kernel.specs.Before.{before_of}
-use Rattle.spf_kernel.specs.Checked.{IsFirst}
-use Rattle.spf_kernel.specs.Facts.{facts_of}
 
 abbrev pub invariant-loop-note : goal.invariant-loop-note
 invariant-loop-note l = record {

@@ -1,7 +1,5 @@
-use Rattle.std.proofs.Common.{◌∙◌, [], ◌∷◌}
-use Rattle.spf_lex.specs.Tokens.{texts}
+use Rattle.spf_kernel.proofs.Common.{◌∙◌, [], ◌∷◌, texts, fact_of}
 use Rattle.spf_kernel.proofs.rules.least_rule.Goals as goal
-use Rattle.spf_kernel.specs.Facts.{fact_of}
 use Rattle.spf_kernel.proofs.Adding.{counts_before}
 use Rattle.spf_kernel.proofs.FirstBreach.{least_rule_is}
 

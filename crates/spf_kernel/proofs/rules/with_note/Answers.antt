@@ -1,8 +1,5 @@
-use Rattle.std.proofs.Common.{sym, ◌∙◌, subst}
-use Rattle.spf_lex.specs.Tokens.{texts}
+use Rattle.spf_kernel.proofs.Common.{sym, ◌∙◌, subst, texts, IsFirst, facts_of}
 use Rattle.spf_kernel.proofs.rules.with_note.Goals as goal
-use Rattle.spf_kernel.specs.Checked.{IsFirst}
-use Rattle.spf_kernel.specs.Facts.{facts_of}
 use Rattle.spf_kernel.proofs.FirstBreach.{still_first, first_one, first_of_two}
 
 pub returns-in_default-None : goal.returns-in_default-None

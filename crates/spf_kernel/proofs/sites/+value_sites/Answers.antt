@@ -1,8 +1,7 @@
-use Rattle.std.proofs.Common.{◌≤◌, arith, rules}
-use Rattle.std.proofs.lemmas.Grind.{common_steps}
+use Rattle.spf_kernel.proofs.Common.{◌≤◌, arith, common_steps, prod_sites}
+use Rattle.std.proofs.Common.{rules}
 use Rattle.spf_kernel.specs.declared.tree.Value.{the_lemmas}
 use Rattle.spf_kernel.proofs.sites.+value_sites.Goals as goal
-use Rattle.spf_kernel.specs.Sites.{prod_sites}
 use Rattle.spf_kernel.proofs.SiteCounts.{sum_within, value_sites_are}
 
 pub value_sites-prod_sites-count-requires : goal.value_sites-prod_sites-count-requires

@@ -1,7 +1,5 @@
-use Rattle.std.proofs.Common.{◌≡◌, take}
-use Rattle.std.specs.List.{sum_by}
+use Rattle.spf_kernel.proofs.Common.{◌≡◌, take, sum_by, fact_sites, prod_sites}
 use Rattle.spf_kernel.proofs.sites.+value_sites.Given as goal
-use Rattle.spf_kernel.specs.Sites.{fact_sites, prod_sites}
 
 abbrev pub invariant-prod_sites-loop-fact : goal.invariant-prod_sites-loop-fact
 invariant-prod_sites-loop-fact l = l.count ≡ sum_by fact_sites (take l.fact-index l.fact-items)

@@ -1,5 +1,4 @@
-use Rattle.std.proofs.Common.{◌≡◌, ◌++◌, map, take}
-use Rattle.spf_kernel.specs.declared.tree.DataDecl.{DataDecl}
+use Rattle.spf_kernel.proofs.Common.{◌≡◌, ◌++◌, map, take, DataDecl}
 use Rattle.spf_kernel.proofs.tree_names.copy_arrays.Given as goal
 
 abbrev pub invariant-loop-array : goal.invariant-loop-array

@@ -1,4 +1,4 @@
-use Rattle.std.proofs.Common.{◌≡◌, ◌++◌, take}
+use Rattle.spf_kernel.proofs.Common.{◌≡◌, ◌++◌, take}
 use Rattle.spf_kernel.proofs.tree_names.copy_names.Given as goal
 
 abbrev pub invariant-loop-name : goal.invariant-loop-name

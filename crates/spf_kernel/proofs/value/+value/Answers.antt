@@ -1,9 +1,4 @@
-use Rattle.std.proofs.Common.{arith, sym}
-use Rattle.spf_lex.specs.BundleWords.{same_kind}
-use Rattle.spf_lex.specs.Production.{begins}
-use Rattle.spf_lex.specs.Reader.{further, sees}
-use Rattle.spf_lex.specs.declared.kind.Kind.TheVariants.{Star}
-use Rattle.spf_lex.proofs.Repeating.{from_parts, goes_on}
+use Rattle.spf_kernel.proofs.Common.{arith, sym, same_kind, begins, further, sees, Star, from_parts, goes_on}
 use Rattle.spf_kernel.proofs.value.+value.Goals as goal
 use Rattle.spf_kernel.specs.Productions.{fact, next_summand}
 use Rattle.spf_kernel.proofs.Depths.{fact_nested, fact_numbered}

@@ -1,10 +1,4 @@
-use Rattle.std.proofs.Common.{◌≡◌, ◌+◌, ◌*◌, ◌-◌, ◌++◌}
-use Rattle.spf_lex.specs.BundleWords.{same_kind}
-use Rattle.spf_lex.specs.Derivation.{made}
-use Rattle.spf_lex.specs.Production.{begins}
-use Rattle.spf_lex.specs.Reader.{further, repeat, sees}
-use Rattle.spf_lex.specs.declared.kind.Kind.TheVariants.{Star}
-use Rattle.spf_lex.proofs.Repeating.{Rest}
+use Rattle.spf_kernel.proofs.Common.{◌≡◌, ◌+◌, ◌*◌, ◌-◌, ◌++◌, same_kind, made, begins, further, repeat, sees, Star, Rest}
 use Rattle.spf_kernel.proofs.value.+value.Given as goal
 use Rattle.spf_kernel.specs.Productions.{fact, next_summand}
 

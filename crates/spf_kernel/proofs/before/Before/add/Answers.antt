@@ -1,9 +1,5 @@
-use Rattle.std.proofs.Common.{arith}
-use Rattle.std.proofs.lemmas.Grind.{common_steps}
-use Rattle.std.proofs.lemmas.Result.{on_ok_weaker}
-use Rattle.spf_lex.specs.Tokens.{texts}
+use Rattle.spf_kernel.proofs.Common.{arith, common_steps, on_ok_weaker, texts, fact_of}
 use Rattle.spf_kernel.proofs.before.Before.add.Goals as goal
-use Rattle.spf_kernel.specs.Facts.{fact_of}
 use Rattle.spf_kernel.proofs.Adding.{before_after, counts_before}
 
 pub returns-in-Declared-Param : goal.returns-in-Declared-Param

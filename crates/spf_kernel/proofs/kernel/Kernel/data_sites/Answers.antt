@@ -1,4 +1,4 @@
-use Rattle.std.proofs.Common.{arith}
+use Rattle.spf_kernel.proofs.Common.{arith}
 use Rattle.spf_kernel.proofs.kernel.Kernel.data_sites.Goals as goal
 use Rattle.spf_kernel.proofs.FewSites.{few_data_sites}
 

@@ -1,6 +1,4 @@
-use Rattle.std.proofs.Common.{◌∙◌, sym, ap}
-use Rattle.std.specs.List.{list_any}
-use Rattle.std.specs.Str.{bytes_eq}
+use Rattle.spf_kernel.proofs.Common.{◌∙◌, sym, ap, list_any, bytes_eq}
 use Rattle.spf_kernel.proofs.names.NameSet.contains.Goals as goal
 use Rattle.spf_kernel.proofs.NameLists.{list_any-map}
 

@@ -1,5 +1,4 @@
-use Rattle.std.proofs.Common.{sym}
-use Rattle.std.specs.Str.{bytes_eq}
+use Rattle.spf_kernel.proofs.Common.{sym, bytes_eq}
 use Rattle.spf_kernel.proofs.names.NameSet.number.Goals as goal
 use Rattle.spf_kernel.proofs.NameLists.{position_or_len-map, unwrap_or-position}
 

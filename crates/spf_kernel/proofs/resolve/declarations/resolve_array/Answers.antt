@@ -1,4 +1,4 @@
-use Rattle.std.proofs.Common.{arith}
+use Rattle.spf_kernel.proofs.Common.{arith}
 use Rattle.spf_kernel.proofs.resolve.declarations.resolve_array.Goals as goal
 
 pub resolve_name-requires : goal.resolve_name-requires

@@ -1,11 +1,6 @@
-use Rattle.std.proofs.Common.{◌∷◌, ◌++◌, arith, flat_map, subst, sym}
-use Rattle.spf_lex.specs.Tokens.{texts}
-use Rattle.spf_kernel.specs.declared.note.Says.TheVariants.{Declared, Variable}
+use Rattle.spf_kernel.proofs.Common.{◌∷◌, ◌++◌, arith, flat_map, subst, sym, texts, Declared, Variable, note, bound_notes, item_notes, AreNames, nothing}
 use Rattle.spf_kernel.specs.declared.note.Sort.TheVariants.{Loop}
 use Rattle.spf_kernel.proofs.resolve.loops.resolve_loop.Goals as goal
-use Rattle.spf_kernel.specs.Notes.{note, bound_notes, item_notes}
-use Rattle.spf_kernel.specs.Resolved.{AreNames}
-use Rattle.spf_kernel.specs.Scopes.{nothing}
 use Rattle.spf_kernel.proofs.Naming.{names_right}
 
 pub resolve_name-requires : goal.resolve_name-requires
@@ -21,5 +16,5 @@ unfolding Rattle.spf_kernel.specs.Notes.loop_notes
 resolve_items-requires c =
     let range = c.args.raw.now.range in
     let front = note c.args.raw.now.name (Declared Loop) nothing ∷ note range.var Variable nothing ∷ bound_notes range.low ++ bound_notes range.high in
-    let here = names_right (texts c.args.tokens.now) front (flat_map (item_notes range.var) c.args.raw.now.items) c.requires in
-    subst (λ items. AreNames (texts c.args.tokens.now) (flat_map (item_notes range.var) items)) (sym c.as_slice.ensures) here
+    let here = names_right (texts c.args.source.now.tokens.now) front (flat_map (item_notes range.var) c.args.raw.now.items) c.requires in
+    subst (λ items. AreNames (texts c.args.source.now.tokens.now) (flat_map (item_notes range.var) items)) (sym c.as_slice.ensures) here

@@ -1,7 +1,5 @@
-use Rattle.std.proofs.Common.{◌≡◌, map, take}
-use Rattle.spf_lex.specs.Tokens.{texts}
+use Rattle.spf_kernel.proofs.Common.{◌≡◌, map, take, texts, part_of}
 use Rattle.spf_kernel.proofs.resolve.statements.resolve_parts.Given as goal
-use Rattle.spf_kernel.specs.Resolved.{part_of}
 
 abbrev pub invariant-loop-part : goal.invariant-loop-part
-invariant-loop-part l = l.all ≡ map (part_of (texts l.tokens) l.names l.scope) (take l.part-index l.parts)
+invariant-loop-part l = l.all ≡ map (part_of (texts l.source.tokens.now) l.source.names.now l.scope) (take l.part-index l.parts)

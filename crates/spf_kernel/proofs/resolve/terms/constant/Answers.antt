@@ -1,8 +1,5 @@
-use Rattle.std.proofs.Common.{arith, fold, is_some, pos, take, ◌+ℤ◌}
-use Rattle.std.proofs.lemmas.Grind.{common_steps}
-use Rattle.spf_kernel.specs.declared.raw.RawStep.{RawStep}
+use Rattle.spf_kernel.proofs.Common.{arith, fold, is_some, pos, take, ◌+ℤ◌, common_steps, RawStep, alone_of}
 use Rattle.spf_kernel.proofs.resolve.terms.constant.Goals as goal
-use Rattle.spf_kernel.specs.Resolved.{alone_of}
 use Rattle.spf_kernel.proofs.Signs.{wrap_sum, wrap_zero}
 
 pub loop-step-init : goal.loop-step-init

@@ -1,8 +1,6 @@
-use Rattle.std.proofs.Common.{◌≡◌, take, fold, is_some, pos, ◌+ℤ◌}
+use Rattle.spf_kernel.proofs.Common.{◌≡◌, take, fold, is_some, pos, ◌+ℤ◌, RawStep, alone_of}
 use Rattle.spf_base.specs.Wrap.{wrap}
-use Rattle.spf_kernel.specs.declared.raw.RawStep.{RawStep}
 use Rattle.spf_kernel.proofs.resolve.terms.constant.Given as goal
-use Rattle.spf_kernel.specs.Resolved.{alone_of}
 
 abbrev pub invariant-loop-step : goal.invariant-loop-step
 invariant-loop-step l = l.constant ≡ wrap (fold (λ total (step : RawStep). total +ℤ alone_of (is_some step.minus) step.mono) (pos 0) (take l.step-index l.step-items))

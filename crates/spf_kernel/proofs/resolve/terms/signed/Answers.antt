@@ -1,5 +1,4 @@
-use Rattle.std.proofs.Common.{arith}
-use Rattle.std.proofs.lemmas.Grind.{common_steps}
+use Rattle.spf_kernel.proofs.Common.{arith, common_steps}
 use Rattle.spf_kernel.proofs.resolve.terms.signed.Goals as goal
 use Rattle.spf_kernel.proofs.Signs.{wrap_pos, wrap_neg}
 

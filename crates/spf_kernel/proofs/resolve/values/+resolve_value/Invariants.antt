@@ -1,11 +1,9 @@
-use Rattle.std.proofs.Common.{◌≡◌, take, map}
-use Rattle.spf_lex.specs.Tokens.{texts}
+use Rattle.spf_kernel.proofs.Common.{◌≡◌, take, map, texts, factor_of}
 use Rattle.spf_kernel.proofs.resolve.values.+resolve_value.Given as goal
-use Rattle.spf_kernel.specs.Resolved.{factor_of}
 use Rattle.spf_kernel.proofs.ValueEquations.{summand_of}
 
 abbrev pub invariant-resolve_summand-loop-factor : goal.invariant-resolve_summand-loop-factor
-invariant-resolve_summand-loop-factor l = l.facts ≡ map (factor_of (texts l.tokens) l.names l.scope) (take l.factor-index l.factor-items)
+invariant-resolve_summand-loop-factor l = l.facts ≡ map (factor_of (texts l.source.tokens.now) l.source.names.now l.scope) (take l.factor-index l.factor-items)
 
 abbrev pub invariant-resolve_value-loop-summand : goal.invariant-resolve_value-loop-summand
-invariant-resolve_value-loop-summand l = l.prods ≡ map (summand_of (texts l.tokens) l.names l.scope) (take l.summand-index l.summand-items)
+invariant-resolve_value-loop-summand l = l.prods ≡ map (summand_of (texts l.source.tokens.now) l.source.names.now l.scope) (take l.summand-index l.summand-items)

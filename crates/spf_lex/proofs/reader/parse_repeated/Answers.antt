@@ -1,7 +1,7 @@
 use Rattle.std.proofs.Common.{rules, arith, sym}
 use Rattle.std.proofs.lemmas.Grind.{common_steps}
 use Rattle.spf_lex.proofs.Repeating.{at_first, goes_on}
-use Rattle.spf_lex.proofs.reader.repeated.Goals as goal
+use Rattle.spf_lex.proofs.reader.parse_repeated.Goals as goal
 
 pub loop-turn-init : goal.loop-turn-init
 loop-turn-init g c =
@@ -11,4 +11,4 @@ loop-turn-init g c =
 pub loop-turn-preserved : goal.loop-turn-preserved
 loop-turn-preserved g c =
     rw c.in_ok-push.ensures.ok
-    (goes_on g.P.Part.begins g.P.Part.reading _ c.loop-turn.parts _ c.loop-turn._turn c.loop-turn.tokens c.loop-turn.invariant c.loop-turn-test.true (sym c.if-not-begins.ensures) _ c.read.new.tokens c.in_ok-part.ensures)
+    (goes_on g.P.Part.begins g.P.Part.reading _ c.loop-turn.parts _ c.loop-turn._turn c.loop-turn.tokens c.loop-turn.invariant c.loop-turn-test.true (sym c.if-not-begins.ensures) _ c.parse.new.tokens c.in_ok-part.ensures)

@@ -1,7 +1,7 @@
 use Rattle.std.proofs.Common.{◌≡◌, ◌-◌}
 use Rattle.spf_lex.specs.Reader.{repeat}
 use Rattle.spf_lex.proofs.Repeating.{Rest}
-use Rattle.spf_lex.proofs.reader.repeated.Given as goal
+use Rattle.spf_lex.proofs.reader.parse_repeated.Given as goal
 
 -- what was read, and what is still read, are the whole
 abbrev pub invariant-loop-turn : goal.invariant-loop-turn

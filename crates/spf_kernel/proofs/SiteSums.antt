@@ -1,0 +1,46 @@
+-- The sites of terms and values, told of their parts as lists.
+use Rattle.spf_kernel.proofs.Common.{◌≡◌, ℕ, ◌+◌, List, refl, ap, sym, ◌∙◌, sum_by-cons, sum_by, ℤ, Term, Term', roll-Term, out-roll-Term, Row_of-Mono, end_of-Mono, more_of-Mono, items-the_row-Mono, items_shown-the_row-Mono-0, Mono, Value, Value', roll-Value, out-roll-Value, Row_of-Prod, end_of-Prod, more_of-Prod, items-the_row-Prod, items_shown-the_row-Prod-1, Row_of-Factor, end_of-Factor, more_of-Factor, items-the_row-Factor, items_shown-the_row-Factor-0, Prod}
+use Rattle.spf_term.specs.Value.{applications, sum_applications, atom_applications}
+use Rattle.spf_term.specs.declared.term.Term.{out-Term}
+use Rattle.spf_kernel.specs.BodySites.{value_sites, prods_sites, facts_sites, fact_sites, prod_sites}
+use Rattle.spf_kernel.specs.declared.tree.Value.{out-Value}
+use Rattle.spf_kernel.specs.declared.tree.Factor.TheBlock.{shown-the_row-Factor-0}
+
+-- ---- terms
+
+abbrev pub mono_applications : Mono → ℕ
+mono_applications mono = atom_applications mono.atom
+
+row_applications : {n : _} (row : Row_of-Mono n) → sum_applications row ≡ sum_by mono_applications (items-the_row-Mono n row)
+row_applications end_of-Mono = refl
+row_applications (more_of-Mono coef atom others) =
+    ap (λ more. atom_applications atom + more) (row_applications others) ∙ sym (sum_by-cons mono_applications (record { coef = coef; atom = atom }) (items-the_row-Mono _ others))
+
+applications_are : (term : Term) → applications term ≡ sum_by mono_applications (out-Term term).monos
+unfolding out-Term denote.Hole.Carrier.out
+applications_are (Term' shape monos constant) = row_applications monos ∙ ap (sum_by mono_applications) (sym (items_shown-the_row-Mono-0 shape monos))
+
+pub rolled_term : (monos : List Mono) (constant : ℤ) → applications (roll-Term (record { monos = monos; constant = constant })) ≡ sum_by mono_applications monos
+rolled_term monos constant =
+    applications_are (roll-Term (record { monos = monos; constant = constant }))
+    ∙ ap (λ term. sum_by mono_applications term.monos) (out-roll-Term (record { monos = monos; constant = constant }))
+
+-- ---- values
+
+facts_are : {n : _} (row : Row_of-Factor n) → facts_sites row ≡ sum_by fact_sites (items-the_row-Factor n row)
+facts_are end_of-Factor = refl
+facts_are (more_of-Factor fact others) = ap (λ more. fact_sites fact + more) (facts_are others) ∙ sym (sum_by-cons fact_sites fact (items-the_row-Factor _ others))
+
+prods_are : {n : _} (row : Row_of-Prod n) → prods_sites row ≡ sum_by prod_sites (items-the_row-Prod n row)
+prods_are end_of-Prod = refl
+prods_are (more_of-Prod minus shape facts others) =
+    let here = facts_are facts ∙ ap (sum_by fact_sites) (sym (items_shown-the_row-Factor-0 shape facts)) in
+    let more = prods_are others in
+    (λ i. here i + more i) ∙ sym (sum_by-cons prod_sites (record { minus = minus; facts = shown-the_row-Factor-0 shape facts }) (items-the_row-Prod _ others))
+
+pub value_sites_are : (value : Value) → value_sites value ≡ sum_by prod_sites (out-Value value).prods
+unfolding out-Value denote.Hole.Carrier.out
+value_sites_are (Value' shape prods) = prods_are prods ∙ ap (sum_by prod_sites) (sym (items_shown-the_row-Prod-1 shape prods))
+
+pub rolled_value : (prods : List Prod) → value_sites (roll-Value (record { prods = prods })) ≡ sum_by prod_sites prods
+rolled_value prods = value_sites_are (roll-Value (record { prods = prods })) ∙ ap (λ value. sum_by prod_sites value.prods) (out-roll-Value (record { prods = prods }))
