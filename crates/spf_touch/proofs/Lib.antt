@@ -1,6 +1,8 @@
 pub mod Blends
 pub mod Classes
 pub mod Lifting
+pub mod Lists
+pub mod Marked
 pub mod Members
 pub mod Noted
 pub mod OpEffects

@@ -39,7 +39,7 @@ class_at-noted (t ∷ ts) e c x = elim (cases_Bool (eqb t.element e)) [
   ]
 ]
 
-once_noted : (ts : List Touch) (e : ℕ) (c : Class) → IsOnce ts → IsOnce (noted ts e c)
+pub once_noted : (ts : List Touch) (e : ℕ) (c : Class) → IsOnce ts → IsOnce (noted ts e c)
 once_noted [] e c h = (refl, tt)
 once_noted (t ∷ ts) e c h = elim (cases_Bool (eqb t.element e)) [
   | inl here ↦ rw here (rw (← eqb-true t.element e here) h.0, h.1)

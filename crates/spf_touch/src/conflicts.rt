@@ -2,6 +2,7 @@
 
 ghost use Rattle.std.specs.Prelude.{◌≡◌, ◌↔◌, IsTrue, Any};
 ghost use Rattle.spf_touch.specs.Conflict.{Conflict, Clash, is_shared};
+ghost use Rattle.spf_touch.specs.Copy.{together};
 
 use crate::class::Class;
 use crate::touch::Touch;
@@ -21,11 +22,22 @@ fn clashes(touch: &Touch, others: &[Touch]) -> bool
     others.iter().any(|other| touch.element == other.element && !shared(touch.class, other.class))
 }
 
-pub(crate) fn shared(one: Class, other: Class) -> bool
+fn shared(one: Class, other: Class) -> bool
     ensures { result ≡ is_shared one other }
 {
     matches!(
         (one, other),
         (Class::Read, Class::Read) | (Class::Add, Class::Add)
     )
+}
+
+/// The class of an element that is touched in both ways.
+pub(crate) fn join(one: Class, other: Class) -> Class
+    ensures { result ≡ together one other }
+{
+    if shared(one, other) {
+        one
+    } else {
+        Class::Write
+    }
 }

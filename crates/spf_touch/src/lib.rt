@@ -15,6 +15,7 @@ mod op;
 mod op_units;
 mod perform;
 mod touch;
+mod touch_lists;
 mod touches;
 mod units;
 
@@ -26,5 +27,6 @@ pub use laws::{any_legal_order, work_on_a_copy};
 pub use op::Op;
 pub use op_units::OpUnits;
 pub use touch::Touch;
+pub use touch_lists::TouchLists;
 pub use touches::Touches;
 pub use units::Units;

@@ -1,12 +1,11 @@
 //! Units that are lists of operations.
 
 ghost use Rattle.std.specs.Prelude.{◌≡◌, ◌<◌, ◌^◌, ℕ, All, IfOk, OnOk, length, map, vec_items, vec_len, true};
-ghost use Rattle.spf_touch.specs.Copy.{together};
 ghost use Rattle.spf_touch.specs.Ops.{noted, ops_of, touches_of};
 
 use crate::cells::Cells;
 use crate::class::Class;
-use crate::conflicts::shared;
+use crate::conflicts::join;
 use crate::op::Op;
 use crate::perform::perform_all;
 use crate::touch::Touch;
@@ -124,14 +123,4 @@ fn note(touches: &mut Vec<Touch>, element: u32, class: Class) -> Result<(), NoMe
     }
     touches.push(Touch { element, class })?;
     Ok(())
-}
-
-fn join(one: Class, other: Class) -> Class
-    ensures { result ≡ together one other }
-{
-    if shared(one, other) {
-        one
-    } else {
-        Class::Write
-    }
 }

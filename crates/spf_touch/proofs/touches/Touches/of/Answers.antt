@@ -1,6 +1,6 @@
-use Rattle.spf_touch.specs.Frame.{IsOnce}
-use Rattle.spf_touch.proofs.Rows.{all_row}
+use Rattle.std.proofs.Common.{arith, ap, length}
+use Rattle.spf_touch.proofs.Lists.{length-cut}
 use Rattle.spf_touch.proofs.touches.Touches.of.Goals as goal
 
-pub returns-clause-once : goal.returns-clause-once
-returns-clause-once c = rw c.as_slice.ensures.value (all_row IsOnce c.self.inside.lists.items c.args.local c.index.result.now c.self.invariant.1 (rw c.self.view_is c.requires) c.index.ensures)
+pub list_at-requires-clause-there : goal.list_at-requires-clause-there
+list_at-requires-clause-there c = omega (arith, ap length c.self.view_is, length-cut c.self.inside.touches.items 0 c.self.inside.ends.items)

@@ -1,0 +1,17 @@
+//! Tests of the languages and of what they stand on, from outside: each test calls what is public, as a user does.
+//!
+//! There is a module for each crate under test: `spf_base`, `spf_io`, `spf_lex`, `spf_kernel` and `spf_script`.
+#![tactic(auto)]
+
+#[cfg(test)]
+mod base;
+#[cfg(test)]
+mod io;
+#[cfg(test)]
+mod kernel;
+#[cfg(test)]
+mod lex;
+#[cfg(test)]
+mod look_ahead;
+#[cfg(test)]
+mod script;

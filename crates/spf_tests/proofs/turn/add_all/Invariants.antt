@@ -1,5 +1,0 @@
-use Rattle.spf_tests.specs.Turns.{IsFree}
-use Rattle.spf_tests.proofs.turn.add_all.Given as goal
-
-abbrev pub invariant-loop-amount : goal.invariant-loop-amount
-invariant-loop-amount g l = IsFree l.turn l.pass
