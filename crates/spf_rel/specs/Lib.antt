@@ -1,0 +1,4 @@
+pub mod Join
+pub mod Meaning
+pub mod Operations
+pub mod Renumbering
