@@ -17,6 +17,6 @@ mod step;
 mod steps;
 
 pub use printing::print;
-pub use script::{Script, ScriptTextFault, one_script_stands, parse};
+pub use script::{Script, ScriptTextFault, one_script_stands, parse, script_of};
 pub use step::{TextSeed, TextStep};
 pub use steps::Steps;

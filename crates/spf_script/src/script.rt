@@ -48,9 +48,9 @@ impl Script {
     }
 }
 
-/// The script of these steps, which stands there.
-fn script_of(tokens: &Tokens, from: u32, next: u32, steps: Steps) -> Script
-    requires stands { StandsAt bundle_words p.script tokens.now from next steps }
+/// The script of steps that stand somewhere among the tokens. Constant time.
+pub fn script_of(tokens: &Tokens, steps: Steps) -> Script
+    requires stands { (from : ℕ) × (next : ℕ) × StandsAt bundle_words p.script tokens.now from next steps }
     requires lexed { IsTokenized tokens.now.text tokens.now.spans }
     ensures { result ≡ steps }
 {
@@ -75,7 +75,7 @@ pub fn parse(alloc: Global, tokens: &Tokens, from: u32) -> Result<(Script, u32),
     ensures { IsAnswer tokens.now from result }
 {
     match part_at::<Kind, Steps>(alloc, tokens, from) {
-        Ok((steps, next)) => Ok((script_of(tokens, from, next, steps), next)),
+        Ok((steps, next)) => Ok((script_of(tokens, steps), next)),
         Err(PartFault::Syntax { place, kind }) => Err(ScriptTextFault::Syntax { place, kind }),
         Err(PartFault::Memory) => Err(ScriptTextFault::Memory),
     }

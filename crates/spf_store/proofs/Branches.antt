@@ -5,7 +5,7 @@ use Rattle.std.proofs.lemmas.List.Sums.{sum_by-cons}
 use Rattle.std.specs.List.{sum_by}
 use Rattle.spf_term.specs.Environment.{Environment}
 use Rattle.spf_term.specs.Walk.{Through, StopsAt}
-use Rattle.spf_store.specs.BodySites.{cond_sites}
+use Rattle.spf_kernel.specs.BodySites.{cond_sites}
 use Rattle.spf_kernel.specs.declared.tree.Assign.{Assign}
 use Rattle.spf_kernel.specs.declared.tree.Cond.{Cond}
 use Rattle.spf_store.specs.Event.{Event}

@@ -5,7 +5,7 @@ use Rattle.std.proofs.lemmas.List.Sums.{sum_by_push, sum_by-cons, sum_by-take-le
 use Rattle.std.specs.List.{sum_by}
 use Rattle.spf_kernel.specs.declared.tree.Value.{Value, Value', out-Value, Row_of-Prod, end_of-Prod, more_of-Prod, items-the_row-Prod, items_shown-the_row-Prod-1, Row_of-Factor, end_of-Factor, more_of-Factor, items-the_row-Factor, items_shown-the_row-Factor-0}
 use Rattle.spf_kernel.specs.declared.tree.Factor.TheBlock.{shown-the_row-Factor-0}
-use Rattle.spf_store.specs.BodySites.{value_sites, prods_sites, facts_sites, fact_sites, prod_sites}
+use Rattle.spf_kernel.specs.BodySites.{value_sites, prods_sites, facts_sites, fact_sites, prod_sites}
 
 -- one element more of the front of a list
 module _ {A : Type 0} (f : A → ℕ) (xs : List A) (n : ℕ) (x : A) (inside : n < length xs) (at : x ≡ get_or xs n x) where
@@ -17,7 +17,7 @@ module _ {A : Type 0} (f : A → ℕ) (xs : List A) (n : ℕ) (x : A) (inside : 
 
 -- ---- values
 
-facts_are : {n : _} (row : Row_of-Factor n) → facts_sites row ≡ sum_by fact_sites (items-the_row-Factor n row)
+pub facts_are : {n : _} (row : Row_of-Factor n) → facts_sites row ≡ sum_by fact_sites (items-the_row-Factor n row)
 facts_are end_of-Factor = refl
 facts_are (more_of-Factor fact others) = ap (λ more. fact_sites fact + more) (facts_are others) ∙ sym (sum_by-cons fact_sites fact (items-the_row-Factor _ others))
 

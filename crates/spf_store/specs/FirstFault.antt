@@ -42,16 +42,21 @@ counted_all count (event ∷ events) = counted_all (counted count event) events
 abbrev pub unless_between : ℤ → ℤ → ℕ → ℤ → Option (ℕ × ℤ)
 unless_between low high site value = if int_le low value && int_lt value high then None else Some (site, value)
 
-module _ (env : Environment) (tree : Tree) where
+module _ (env : Environment) (arrays : List ArrayShape) where
   abbrev pub data_length : ℕ → ℕ
-  data_length array = slice_index_or (map (λ (shape : ArrayShape). shape.length) (data_of env tree)) array 0
+  data_length array = slice_index_or (map (λ (shape : ArrayShape). shape.length) arrays) array 0
 
   -- the site and its value, where that isn't allowed there
+  abbrev pub outside_in : Event → Option (ℕ × ℤ)
+  outside_in (Bound site value) = unless_between (neg_ℤ (pos bound_limit)) (pos (bound_limit + 1)) site value
+  outside_in (Read entry) = unless_between (pos 0) (pos (length (table_at env entry.table))) entry.site entry.place
+  outside_in (Access site class array place) = unless_between (pos 0) (pos (data_length array)) site place
+  outside_in _ = None
+
+module _ (env : Environment) (tree : Tree) where
+  -- the same for the arrays of a kernel
   abbrev pub outside : Event → Option (ℕ × ℤ)
-  outside (Bound site value) = unless_between (neg_ℤ (pos bound_limit)) (pos (bound_limit + 1)) site value
-  outside (Read entry) = unless_between (pos 0) (pos (length (table_at env entry.table))) entry.site entry.place
-  outside (Access site class array place) = unless_between (pos 0) (pos (data_length array)) site place
-  outside _ = None
+  outside = outside_in env (data_of env tree)
 
   -- each value on a unit's way is allowed
   abbrev pub IsInRange : Unit → Type 0

@@ -1,7 +1,5 @@
 pub mod Accepted
 pub mod Accesses
-pub mod BodySites
-pub mod Bounded
 pub mod Effect
 pub mod Event
 pub mod FirstFault

@@ -24,7 +24,7 @@ use Rattle.spf_kernel.specs.declared.tree.Part.TheVariants as part_is
 use Rattle.spf_kernel.specs.declared.tree.Item.{Item}
 use Rattle.spf_kernel.specs.declared.tree.Item.TheVariants as item_is
 use Rattle.spf_store.specs.Event.{Event, Turn, Bound, Read, Access, Store}
-use Rattle.spf_store.specs.BodySites.{assign_sites, cond_sites, fact_sites, facts_sites, item_sites, part_sites}
+use Rattle.spf_kernel.specs.BodySites.{assign_sites, cond_sites, fact_sites, facts_sites, item_sites, part_sites}
 
 -- the class of an assignment's target
 abbrev pub target_class : Becomes → Class

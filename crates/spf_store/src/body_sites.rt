@@ -2,7 +2,7 @@
 
 ghost use Rattle.std.specs.Prelude.{◌≡◌, ◌<◌, ◌^◌};
 ghost use Rattle.std.specs.List.{sum_by};
-ghost use Rattle.spf_store.specs.BodySites.{assign_sites, cond_sites, fact_sites, guard_sites, part_sites, prod_sites, value_sites};
+ghost use Rattle.spf_kernel.specs.BodySites.{assign_sites, cond_sites, fact_sites, guard_sites, part_sites, prod_sites, value_sites};
 
 use spf_kernel::tree::{Assign, Cond, Factor, Guard, Part, Prod, Value};
 use spf_term::applications;
@@ -44,8 +44,8 @@ fn value_sites(value: &Value) -> u32
     count
 }
 
-/// The target, what is nested in its subscript, and the sites of the value.
-fn assign_sites(assign: &Assign) -> u32
+/// The sites of an assignment: the target, what is nested in its subscript, and those of the value. Linear in it.
+pub fn assign_sites(assign: &Assign) -> u32
     requires { assign_sites assign.now < 2 ^ 32 }
     ensures { result ≡ assign_sites assign.now }
 {

@@ -5,20 +5,30 @@
 //! determine it, and no data does. What a unit does to the cells (`Effect`), what the source loops make of them (`Source`),
 //! what a unit touches (`Accesses`), and the first fault on the way through a step (`FirstFault`) are all said of this list.
 //!
-//! Upward the crate gives two contracts: a `Store` is cells, and `flat` and `unflat` turn a place of an array into an element
-//! and back (`IsAt`, `places_are_elements`); and `walk_iteration` takes a `Visitor` through the trace of an iteration, event
-//! by event, up to the first that it refuses (`Walks`).
+//! Upward the crate gives three contracts: `shape` answers how many steps a kernel has, and how large its loops and arrays
+//! are, or how many units there are, where those are too many (`IsShapeAnswer`); a `Store` is cells, and `flat` and `unflat`
+//! turn a place of an array into an element and back (`IsAt`, `places_are_elements`); and `walk_iteration` takes a `Visitor`
+//! through the trace of an iteration, event by event, up to the first that it refuses (`Walks`).
 //!
 //! It stands on spf_kernel for trees, on spf_term for values, on spf_space for shapes and units, and on spf_touch for cells.
-//! It takes no memory. A walk is linear in its events, and in the parts that are gone past.
+//! `shape` alone takes memory. A walk is linear in its events, and in the parts that are gone past.
 #![tactic(auto)]
 
 mod body_sites;
+mod numbers;
 mod piece;
+mod ranges;
+mod shapes;
 mod store;
+mod values;
 mod visitor;
 mod walk;
 
+pub use body_sites::assign_sites;
+pub use numbers::accepted_numbers_are_small;
+pub use ranges::extent;
+pub use shapes::{ShapeFault, array_shapes, outer_value, shape};
 pub use store::{Store, places_are_elements};
+pub use values::evaluate;
 pub use visitor::Visitor;
 pub use walk::walk_iteration;

@@ -5,8 +5,8 @@ ghost use Rattle.spf_term.specs.Bounded.{AreWithin, IsBounded, IsWithin};
 ghost use Rattle.spf_term.specs.Environment.{Environment};
 ghost use Rattle.spf_term.specs.Value.{applications, value};
 ghost use Rattle.spf_term.specs.Walk.{Walks};
-ghost use Rattle.spf_store.specs.BodySites.{assign_sites};
-ghost use Rattle.spf_store.specs.Bounded.{IsBoundedAssign};
+ghost use Rattle.spf_kernel.specs.BodySites.{assign_sites};
+ghost use Rattle.spf_kernel.specs.Bounded.{IsBoundedAssign};
 ghost use Rattle.spf_store.specs.Event.{Event, Turn, Bound};
 ghost use Rattle.spf_store.specs.Trace.{assign_trace, term_trace};
 

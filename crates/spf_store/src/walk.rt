@@ -6,12 +6,13 @@ ghost use Rattle.std.specs.List.{sum_by};
 ghost use Rattle.spf_term.specs.Bounded.{AreWithin, IsBounded, IsWithin};
 ghost use Rattle.spf_term.specs.Value.{applications, value};
 ghost use Rattle.spf_term.specs.Walk.{Walks};
-ghost use Rattle.spf_store.specs.BodySites.{assign_sites, cond_sites, guard_sites, item_sites, part_sites};
-ghost use Rattle.spf_store.specs.Bounded.{IsBoundedAssign, IsBoundedCond, IsBoundedGuard, IsBoundedItem, IsBoundedPart};
+ghost use Rattle.spf_kernel.specs.BodySites.{assign_sites, cond_sites, guard_sites, item_sites, part_sites};
+ghost use Rattle.spf_kernel.specs.Bounded.{IsBoundedAssign, IsBoundedCond, IsBoundedGuard, IsBoundedItem, IsBoundedPart};
 ghost use Rattle.spf_store.specs.Trace.{assign_trace, bound_trace, branch_trace, compares, cond_trace, holds, inner_trace, integers, item_trace, items_trace, outer_of, part_trace, turn_trace, turns_trace};
 
 use crate::body_sites::{guard_sites, parts_sites};
 use crate::piece::{Piece, walk_all};
+use crate::ranges::extent;
 use crate::visitor::Visitor;
 use spf_kernel::tree::{Assign, Compare, Cond, Guard, Item, Part};
 use spf_term::{Term, Walked};
@@ -155,19 +156,6 @@ fn outer_of(variables: &[i64]) -> i64
     }
 }
 
-/// How many turns a `for` has.
-fn turns(range: &Range<i64>) -> u32
-    requires low { IsWithin (2 ^ 22) range.now.start }
-    requires high { IsWithin (2 ^ 22) range.now.end }
-    ensures { result ≡ int_gap range.now.start range.now.end }
-{
-    if range.start < range.end {
-        (range.end - range.start) as u32
-    } else {
-        0
-    }
-}
-
 /// The variables in a turn of a `for`.
 fn turn_variables(variables: &[i64], range: &Range<i64>, turn: u32) -> [i64; 2]
     requires low { IsWithin (2 ^ 22) range.now.start }
@@ -195,7 +183,7 @@ fn walk_turns<S, V: Visitor<S>>(
     requires may { All (V.may visitor.now state.old) (turns_trace (V.env visitor.now) variables.now site parts.now (integers range.now.start range.now.end)) }
     ensures { Walks (V.accepts visitor.now) (V.refuses visitor.now) state.old (turns_trace (V.env visitor.now) variables.now site parts.now (integers range.now.start range.now.end)) result state.new }
 {
-    for turn in 0..turns(range) {
+    for turn in 0..extent(range) {
         let both = turn_variables(variables, range, turn);
         walk_turn(visitor, state, &both, parts, site)?;
     }

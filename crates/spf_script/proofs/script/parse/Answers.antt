@@ -4,7 +4,7 @@ use Rattle.spf_script.proofs.Scripts.{script_found}
 use Rattle.spf_script.proofs.script.parse.Goals as goal
 
 pub script_of-requires-clause-stands : goal.script_of-requires-clause-stands
-script_of-requires-clause-stands c = script_found c.args.tokens.now c.args.from (Ok (c.in-Ok.steps, c.in-Ok.next)) c.in-Ok.ensures.found
+script_of-requires-clause-stands c = (c.args.from, c.in-Ok.next, script_found c.args.tokens.now c.args.from (Ok (c.in-Ok.steps, c.in-Ok.next)) c.in-Ok.ensures.found)
 
 pub returns-in-Ok : goal.returns-in-Ok
 returns-in-Ok c = rw c.script_of.ensures (script_found c.args.tokens.now c.args.from (Ok (c.in-Ok.steps, c.in-Ok.next)) c.in-Ok.ensures.found)

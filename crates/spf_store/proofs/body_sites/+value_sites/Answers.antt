@@ -1,7 +1,7 @@
 use Rattle.std.proofs.Common.{◌<◌, ◌^◌, arith, rules}
 use Rattle.std.proofs.lemmas.Grind.{common_steps}
 use Rattle.spf_kernel.specs.declared.tree.Value.{the_lemmas}
-use Rattle.spf_store.specs.BodySites.{prod_sites}
+use Rattle.spf_kernel.specs.BodySites.{prod_sites}
 use Rattle.spf_store.proofs.SiteCounts.{sum_within, value_sites_are}
 use Rattle.spf_store.proofs.body_sites.+value_sites.Goals as goal
 

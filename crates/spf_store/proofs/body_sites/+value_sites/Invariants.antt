@@ -1,6 +1,6 @@
 use Rattle.std.proofs.Common.{◌≡◌, take}
 use Rattle.std.specs.List.{sum_by}
-use Rattle.spf_store.specs.BodySites.{fact_sites, prod_sites}
+use Rattle.spf_kernel.specs.BodySites.{fact_sites, prod_sites}
 use Rattle.spf_store.proofs.body_sites.+value_sites.Given as goal
 
 abbrev pub invariant-prod_sites-loop-fact : goal.invariant-prod_sites-loop-fact

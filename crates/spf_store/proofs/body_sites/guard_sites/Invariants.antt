@@ -1,6 +1,6 @@
 use Rattle.std.proofs.Common.{◌≡◌, ◌+◌, take}
 use Rattle.std.specs.List.{sum_by}
-use Rattle.spf_store.specs.BodySites.{assign_sites, cond_sites}
+use Rattle.spf_kernel.specs.BodySites.{assign_sites, cond_sites}
 use Rattle.spf_store.proofs.body_sites.guard_sites.Given as goal
 
 abbrev pub invariant-loop-cond : goal.invariant-loop-cond

@@ -14,14 +14,14 @@ loop-turn-init g c =
 
 pub walk_turn-requires-clause-may : goal.walk_turn-requires-clause-may
 walk_turn-requires-clause-may g c =
-    let inside = rw c.turns-turn-end.ensures at c.loop-turn-test.true in
+    let inside = rw c.extent-turn-end.ensures at c.loop-turn-test.true in
     subst (λ (both : List ℤ). All (g.V.Visitor.may c.args.visitor.now c.loop-turn.state) (turn_trace (g.V.Visitor.env c.args.visitor.now) both c.args.site c.args.parts.now))
     (sym c.turn_variables-both.ensures) (may_turn (g.V.Visitor.accepts c.args.visitor.now) (g.V.Visitor.may c.args.visitor.now) (g.V.Visitor.env c.args.visitor.now) c.args.state.now c.args.variables.now
     c.args.site c.args.parts.now c.args.range.now.start c.args.range.now.end c.loop-turn.turn inside c.loop-turn.invariant)
 
 pub loop-turn-preserved : goal.loop-turn-preserved
 loop-turn-preserved g c =
-    let inside = rw c.turns-turn-end.ensures at c.loop-turn-test.true in
+    let inside = rw c.extent-turn-end.ensures at c.loop-turn-test.true in
     turned (g.V.Visitor.accepts c.args.visitor.now) (g.V.Visitor.may c.args.visitor.now) (g.V.Visitor.env c.args.visitor.now) c.args.state.now c.args.variables.now
     c.args.site c.args.parts.now c.args.range.now.start c.args.range.now.end c.loop-turn.turn inside c.loop-turn.invariant
     (g.met.V.Visitor.stays c.args.visitor.now)
@@ -30,7 +30,7 @@ loop-turn-preserved g c =
 
 pub returns-in_err-walk_turn : goal.returns-in_err-walk_turn
 returns-in_err-walk_turn g c =
-    let inside = rw c.turns-turn-end.ensures at c.loop-turn-test.true in
+    let inside = rw c.extent-turn-end.ensures at c.loop-turn-test.true in
     stopped_walk c.walk_turn.new.state (err_from_is_err_and c.from_residual.result c.from_residual.ensures.1)
     (turn_stopped (g.V.Visitor.accepts c.args.visitor.now) (g.V.Visitor.may c.args.visitor.now) (g.V.Visitor.env c.args.visitor.now) c.args.state.now c.args.variables.now
     c.args.site c.args.parts.now c.args.range.now.start c.args.range.now.end c.loop-turn.turn inside c.loop-turn.invariant
@@ -38,6 +38,6 @@ returns-in_err-walk_turn g c =
 
 pub returns : goal.returns
 returns g c =
-    let past = rw c.turns-turn-end.ensures at c.loop-turn-test.false in
+    let past = rw c.extent-turn-end.ensures at c.loop-turn-test.false in
     all_turned (g.V.Visitor.accepts c.args.visitor.now) (g.V.Visitor.may c.args.visitor.now) (g.V.Visitor.env c.args.visitor.now) c.args.state.now c.args.variables.now
     c.args.site c.args.parts.now c.args.range.now.start c.args.range.now.end c.loop-turn.turn (omega (arith, past)) c.loop-turn.invariant

@@ -1,0 +1,9 @@
+mod Allowed
+mod Assoc
+mod Carried
+mod Rows
+mod Starts
+mod Stored
+mod UnitRows
+mod Way
+mod Wrapped

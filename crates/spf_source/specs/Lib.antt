@@ -1,0 +1,5 @@
+pub mod Done
+pub mod Needs
+pub mod Products
+pub mod Ready
+pub mod Stays

@@ -1,0 +1,20 @@
+//! The plain interpreter: what the source loops do to cells, unit by unit.
+//!
+//! `run_unit` runs one iteration of one loop, on any cells; what it makes of their values is the effect of that unit
+//! (`Effect`). `run_source` runs all of them in textual order, so many steps, and leaves the source result (`Source`).
+//! Both take a visitor through the trace of each iteration, which carries out its assignments and refuses nothing: that
+//! every value on the way is allowed, is what they ask of their caller.
+//!
+//! It stands on spf_store for traces, effects and the walk, on spf_touch for cells, and on spf_term and spf_base for values.
+//! It takes no memory. A unit is linear in its events and in what its assignments are written with.
+#![tactic(auto)]
+
+mod assigns;
+mod effects;
+mod loops;
+mod source;
+mod unit;
+mod values;
+
+pub use source::run_source;
+pub use unit::run_unit;
