@@ -1,0 +1,7 @@
+mod Events
+mod TermReads
+mod Values
+mod Faults
+mod Coming
+mod Ranges
+mod InRange

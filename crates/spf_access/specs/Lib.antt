@@ -1,0 +1,4 @@
+pub mod Answer
+pub mod Progress
+pub mod ValueTrace
+pub mod Units
