@@ -12,7 +12,6 @@ use Rattle.spf_lex.specs.contracts.kind.Kind.{the_type}
 use Rattle.spf_lex.specs.declared.parts.PartFault.{PartFault}
 use Rattle.spf_lex.proofs.Between.{stands_between}
 use Rattle.spf_lex.proofs.WholeTexts.{reads_whole}
-use Rattle.spf_kernel.specs.Productions as kernel_is
 use Rattle.spf_kernel.specs.Productions.{number, sign, numbered, mono, first_step, next_step, sum, subscripted, atom, ix, in_brackets, first_summand, next_summand, value_of, plain, nested, fact, value, becomes, assign, compare, cond, guard, range, part, inner, item, one_loop, params, sized, trend, index, values, decl, kernel}
 use Rattle.spf_script.specs.Productions as script_is
 use Rattle.spf_input.specs.Productions as input_is
@@ -33,6 +32,15 @@ pub kernel_stands : (tokens : Tokenized) (raw : RawBundle) → IsWhole bundle_wo
 unfolding bundle Spells
 kernel_stands tokens raw (d, (spf, behind_spf, splits, one_spf, (one, behind_one, next, one_one, (part, back, after, spells, others))), is) =
     (_, _, stands_between bundle_words kernel tokens raw.kernel (spf ++ one) part back (rw append_assoc (splits ∙ ap (λ ts. spf ++ ts) (next ∙ ap (λ ts. one ++ ts) after))) (d.1.1.0, spells, ap (λ (b : RawBundle). b.kernel) is))
+
+pub script_stands : (tokens : Tokenized) (raw : RawBundle) → IsWhole bundle_words bundle tokens raw → (from next : ℕ) × StandsAt bundle_words script_is.script tokens from next raw.script
+unfolding bundle Spells
+script_stands tokens raw (d, (spf, behind_spf, splits, one_spf, (one, behind_one, next, one_one, (part, back, after, spells, (second, rest, more, second_spells, others)))), is) = (
+  _,
+  _,
+  stands_between bundle_words script_is.script tokens raw.script (spf ++ (one ++ part)) second rest
+      (rw (append_assoc, append_assoc) (splits ∙ ap (λ ts. spf ++ ts) (next ∙ ap (λ ts. one ++ ts) (after ∙ ap (λ ts. part ++ ts) more)))) (d.1.1.1.0, second_spells, ap (λ (b : RawBundle). b.script) is),
+)
 
 -- what is only known of a refusal is known of the result
 pub err_only : {A E : Type 0} (Q : Result A E → Type 0) (P : E → Type 0) (result : Result A E) → IsErr result → IsErrAnd result P → ((e : E) → P e → Q (Err e)) → Q result

@@ -1,3 +1,16 @@
+pub mod Accepting
 pub mod Bundles
+pub mod EntryNames
+pub mod Filling
+pub mod Fitting
+pub mod Lookups
+pub mod NameLists
 pub mod OneBundle
+pub mod Parts
+pub mod Plain
+pub mod Refusing
+pub mod Slices
 pub mod Stages
+pub mod StepsName
+pub mod Storing
+pub mod Within

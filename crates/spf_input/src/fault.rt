@@ -1,10 +1,14 @@
 //! Why a text is refused as a bundle.
 
-ghost use Rattle.std.specs.Prelude.{◌≡◌};
+ghost use Rattle.std.specs.Prelude.{◌≡◌, Some};
+ghost use Rattle.spf_base.specs.Word.{IsName};
+ghost use Rattle.spf_input.specs.Rules.{spot};
+ghost use Rattle.spf_input.specs.Tested.{IsRefused};
 
-use spf_base::Place;
+use spf_base::{Name, NoMemory, Place};
 use spf_kernel::Unkept;
 use spf_lex::{LexFault, PartFault, TextKind};
+use std::alloc::Global;
 use thiserror::Error;
 
 /// The first fault of a text, in the order of the variants.
@@ -16,6 +20,9 @@ pub enum InputFault {
     /// The token there breaks this rule of kernels.
     #[error("kernel")]
     Kernel { place: Place, rule: u32 },
+    /// The number at that place of what is given for the name, or what is given for it, breaks this rule of the input.
+    #[error("input")]
+    Input { name: Name, place: u32, rule: u32 },
     #[error("out of memory")]
     Memory,
 }
@@ -59,5 +66,26 @@ impl From<Unkept> for InputFault {
             Unkept::Rule { place, rule } => InputFault::Kernel { place, rule },
             Unkept::Memory => InputFault::Memory,
         }
+    }
+}
+
+impl From<NoMemory> for InputFault {
+    ghost use Rattle.spf_input.specs.declared.fault.InputFault.TheVariants.{Memory};
+
+    ghost from_gives = { λ _ fault. fault ≡ Memory };
+
+    fn from(_error: NoMemory) -> InputFault {
+        InputFault::Memory
+    }
+}
+
+/// The refusal of a rule that is broken at a place of what is given for a name. Linear in the name.
+pub(crate) fn refused(alloc: Global, name: &[u8], place: u32, rule: u32) -> InputFault
+    requires { IsName name.now }
+    ensures { IsRefused rule (Some (spot name.now place)) result }
+{
+    match Name::copy(alloc, name) {
+        Ok(name) => InputFault::Input { name, place, rule },
+        Err(NoMemory) => InputFault::Memory,
     }
 }

@@ -11,12 +11,23 @@
 //! spf_base for places and running out of memory. Reading is linear in the text.
 #![tactic(auto)]
 
+mod bounds;
 mod bundle;
+mod cells;
 mod entries;
 mod fault;
+mod given;
+mod input;
+mod laws;
+mod lookup;
+mod names;
+mod params;
+mod ranges;
 mod reading;
+mod sizes;
 
 pub use bundle::RawBundle;
 pub use entries::{RawEntry, RawInput};
 pub use fault::InputFault;
-pub use reading::{one_bundle_answer, read_kernel};
+pub use laws::kept_input_is_accepted;
+pub use reading::{Bundle, one_bundle_answer, read_bundle, read_kernel};
