@@ -24,6 +24,7 @@ try:
 cases: spf
 	cases/run bin/spf
 
-# How fast the proved program reads, beside `wc -w`.
+# How fast the proved program reads, beside `wc -w`, and how fast it walks and runs.
 bench: spf
 	bench/reading bin/spf
+	bench/running bin/spf

@@ -24,7 +24,7 @@ fn answer_to(rt: &impl Abort, alloc: Global, text: &[u8]) -> Result<Answer, Fail
         Err(InputFault::Kernel { place, rule }) => {
             Ok(Answer::Rule(place.line, place.column, rule))
         }
-        Err(InputFault::Memory) => Err(Fail::from(InputFault::Memory)),
+        Err(fault) => Err(Fail::from(fault)),
     }
 }
 

@@ -1,4 +1,4 @@
-use spf_base::Place;
+use spf_base::{Name, Place};
 use spf_io::{MemSink, MemSource};
 use spf_lex::TextKind;
 use spf_top::{Outcome, What, command, status};
@@ -8,10 +8,10 @@ use std::test::Fail;
 const INCREMENT: &[u8] =
     b"spf 1\nkernel { param n; data x[n]; steps 1; loop a (i in 0 .. n) { x[i] = x[i] + 1; } }\nscript { }\ninput { n = 3; x = 1 2 3; }\n";
 
-/// What a run of `command` left: its outcome, its text and its line.
+/// What a run of `command` left: its exit status, its text and its line.
 #[derive(Drop)]
 struct Ran {
-    outcome: Outcome,
+    status: u8,
     out: Vec<u8>,
     err: Vec<u8>,
 }
@@ -37,44 +37,55 @@ fn run(
     let mut err = MemSink::new(alloc, 100, 16, Vec::new(alloc))?;
     let outcome = command(alloc, &owned, &mut source, &mut out, &mut err);
     Ok(Ran {
-        outcome,
+        status: status(&outcome),
         out: Vec::from_slice(alloc, out.written())?,
         err: Vec::from_slice(alloc, err.written())?,
     })
 }
 
 #[test]
-fn bundles_of_the_first_form_are_run(rt: HostRuntime) -> Result<(), Fail> {
-    let rows: [(&[u8], &[u8]); 7] = [
+fn bundles_are_run(rt: HostRuntime) -> Result<(), Fail> {
+    let rows: [(&[u8], &[u8]); 10] = [
         (INCREMENT, b"x 2 3 4\n"),
         (
             b"spf 1 kernel { param n; data x[n]; steps 1; loop a (i in 0 .. n) { x[i] = x[i] + 1; } } script { } input { n = 2; x = 9223372036854775807 -9223372036854775808; }",
             b"x -9223372036854775808 -9223372036854775807\n",
         ),
         (
-            b"spf 1 kernel { param n; data x[n]; steps 0; loop a (i in 0 .. n) { x[i] = x[i] + 1; } } script { } input { n = 0; x = ; }",
-            b"x\n",
+            b"spf 1 kernel { param n; data x[n]; steps 0; loop a (i in 0 .. n) { x[i] = x[i + 9]; } } script { } input { n = 2; x = 5 6; }",
+            b"x 5 6\n",
         ),
         (
             b"spf 01 kernel{param n;data x[n];steps 3;loop a(i in 1..n){x[i]=x[i]+10;}}script{}input{n=3;x=-1 0 5;}# no line feed",
             b"x -1 30 35\n",
         ),
-        (
-            b"spf 1 kernel { param n; data x[n]; steps 4; loop a (i in 0 .. n) { } } script { } input { n = 2; x = -0 007; }",
-            b"x 0 7\n",
-        ),
-        (
-            b"spf 1 kernel { param n; data x[n]; steps 2; loop a (i in 5 .. n) { x[i] = x[i] + 1; } } script { } input { n = 1; x = 4; }",
-            b"x 4\n",
-        ),
+        (b"spf 1 kernel { steps 1; } script { } input { }", b""),
         (
             b"spf 1 kernel { param n; data x[n]; steps 1; loop a (i in 0 .. n) { x[i] = x[i] + 9223372036854775808; } } script { } input { n = 1; x = 1; }",
             b"x -9223372036854775807\n",
         ),
+        // a guard, whose second condition isn't looked at where the first is false
+        (
+            b"spf 1 kernel { index l[2] in 0 .. 9; data x[3]; steps 1; loop a (i in 0 .. 3) { if i < 2 and l[i] == 7 { x[i] += i * i - l[i]; } } } script { } input { l = 7 8; x = 0 0 0; }",
+            b"x -7 0 0\n",
+        ),
+        // a `for` from 2 up to but not including 5
+        (
+            b"spf 1 kernel { data x[1], y[6]; steps 2; loop a (i in 0 .. 1) { for p in 2 .. 5 { x[i] += y[p]; } } } script { } input { x = 0; y = 1 2 3 4 5 6; }",
+            b"x 24\ny 1 2 3 4 5 6\n",
+        ),
+        (
+            b"spf 1 kernel { param n, z; index ia[n + 1] in 0 .. z + 1 monotone; index ja[z] in 0 .. n; data u[n], b[n], a[z]; steps 2; loop sweep (i in 0 .. n) { u[i] = b[i]; for p in ia[i] .. ia[i + 1] { if ja[p] != i { u[i] += a[p] * u[ja[p]]; } } } } script { } input { n = 3; z = 7; ia = 0 2 5 7; ja = 0 1 0 1 2 1 2; u = 0 0 0; b = 1 2 3; a = 9 1 1 9 1 1 9; }",
+            b"u 4 12 15\nb 1 2 3\na 9 1 1 9 1 1 9\n",
+        ),
+        (
+            b"spf 1 kernel { param n, m; index left[m] in 0 .. n; index right[m] in 0 .. n; data fx[n]; steps 1; loop a (j in 0 .. m) { fx[left[j]] += fx[right[j]]; } } script { } input { n = 2; m = 2; left = 0 0; right = 1 0; fx = 5 7; }",
+            b"fx 24 7\n",
+        ),
     ];
     for (input, text) in rows {
         let ran = run(rt.alloc(), &["run"], input, &[], &[])?;
-        assert_eq!(rt; ran.outcome, Outcome::Done);
+        assert_eq!(rt; ran.status, 0);
         assert_eq!(rt; ran.out.as_slice(), text);
         assert!(rt; ran.err.is_empty());
     }
@@ -82,108 +93,201 @@ fn bundles_of_the_first_form_are_run(rt: HostRuntime) -> Result<(), Fail> {
 }
 
 #[test]
-fn other_bundles_wait_for_later(rt: HostRuntime) -> Result<(), Fail> {
-    let rows: [&[u8]; 4] = [
-        b"spf 1 kernel { param n; data x[n]; steps 1; loop a (i in 0 .. n) { x[i] = x[i] - 1; } } script { } input { n = 0; x = ; }",
-        b"spf 1 kernel { param n; data x[n]; steps 1; loop a (i in 0 .. n) { } } script { } input { n = 1; x = ; }",
-        b"spf 1 kernel { param n; data x[n]; steps 1; loop a (i in 0 .. n) { } } script { } input { n = 1; x = 9223372036854775808; }",
-        b"spf 1 kernel { param n; data x[n]; steps 4194304; loop a (i in 0 .. n) { } } script { } input { n = 2; x = 1 2; }",
-    ];
-    for input in rows {
-        let ran = run(rt.alloc(), &["run"], input, &[], &[])?;
-        assert_eq!(rt; ran.outcome, Outcome::Later);
-        assert!(rt; ran.out.is_empty());
-        assert_eq!(rt; ran.err.as_slice(), b"later\n".as_slice());
-    }
-    Ok(())
-}
-
-#[test]
-fn texts_that_are_no_bundle_are_told(rt: HostRuntime) -> Result<(), Fail> {
-    let rows: [(&[u8], Outcome, &[u8]); 7] = [
+fn refusals_are_told_with_their_places(rt: HostRuntime) -> Result<(), Fail> {
+    let rows: [(&[u8], u8, &[u8]); 17] = [
+        (b"", 5, b"text: 1:1 end\n"),
         (
-            b"",
-            Outcome::Text {
-                place: Place { line: 1, column: 1 },
-                kind: TextKind::End,
-            },
-            b"text: 1:1 end\n",
-        ),
-        (
-            b"spf 2 kernel { param n; data x[n]; steps 1; loop a (i in 0 .. n) { } } script { } input { n = 0; x = ; }",
-            Outcome::Text {
-                place: Place { line: 1, column: 5 },
-                kind: TextKind::Unexpected,
-            },
+            b"spf 2 kernel { steps 1; } script { } input { }",
+            5,
             b"text: 1:5 unexpected\n",
         ),
         (
-            b"spf 1 kernel { param n; data x[n]; steps 1; loop a (i in 0 .. n) { } } script { } input { n = 0; x = ; } spf",
-            Outcome::Text {
-                place: Place {
-                    line: 1,
-                    column: 106,
-                },
-                kind: TextKind::Unexpected,
-            },
-            b"text: 1:106 unexpected\n",
+            b"spf 1 kernel { steps 1; } script { } input { } spf",
+            5,
+            b"text: 1:48 unexpected\n",
         ),
         (
-            b"spf 1 kernel { param n; data x[n]; steps 1; loop a (i in 0 .. n) { } } script { } input { n = 1; x = - ; }",
-            Outcome::Text {
-                place: Place {
-                    line: 1,
-                    column: 104,
-                },
-                kind: TextKind::Unexpected,
-            },
-            b"text: 1:104 unexpected\n",
+            b"spf 1 kernel { steps @; } script { } input { }",
+            5,
+            b"text: 1:22 token\n",
         ),
         (
-            b"spf 1 kernel { param n; data x[n]; steps 1; loop a (i in 0 .. n) { @ } } script { } input { n = 0; x = ; }",
-            Outcome::Text {
-                place: Place {
-                    line: 1,
-                    column: 68,
-                },
-                kind: TextKind::Token,
-            },
-            b"text: 1:68 token\n",
-        ),
-        (
-            b"spf 1 kernel { param n; data x[n]; steps 4194305; loop a (i in 0 .. n) { } } script { } input { n = 0; x = ; }",
-            Outcome::Kernel {
-                place: Place {
-                    line: 1,
-                    column: 42,
-                },
-                rule: 5,
-            },
-            b"kernel: 1:42 rule 5\n",
+            b"spf 1 kernel { steps 4194305; } script { } input { }",
+            6,
+            b"kernel: 1:22 rule 5\n",
         ),
         (
             b"spf 1\nkernel { data x[2], y[2]; steps 1; loop a (i in 0 .. 2) { x[y[i]] = 0; } }\nscript { }\ninput { }\n",
-            Outcome::Kernel {
-                place: Place {
-                    line: 2,
-                    column: 61,
-                },
-                rule: 4,
-            },
+            6,
             b"kernel: 2:61 rule 4\n",
         ),
+        (
+            b"spf 1 kernel { data x[1]; steps 1; } script { } input { }",
+            7,
+            b"input: x 0 rule 3\n",
+        ),
+        // a site of the second iteration
+        (
+            b"spf 1 kernel { data x[3], y[3]; steps 1; loop a (i in 0 .. 3) { y[i] = x[i + 1]; } } script { } input { x = 1 2 3; y = 0 0 0; }",
+            8,
+            b"range: a 2 site 2 value 3\n",
+        ),
+        // an index array inside another: the inner one is read first
+        (
+            b"spf 1 kernel { index l[1] in 0 .. 9; data x[9]; steps 1; loop a (i in 3 .. 4) { x[l[l[i]]] = 0; } } script { } input { l = 5; x = 0 0 0 0 0 0 0 0 0; }",
+            8,
+            b"range: a 3 site 3 value 3\n",
+        ),
+        // in a guard
+        (
+            b"spf 1 kernel { index l[1] in 0 .. 9; steps 1; loop a (i in -1 .. 0) { if l[i] < 0 { } } } script { } input { l = 5; }",
+            8,
+            b"range: a -1 site 1 value -1\n",
+        ),
+        // the lower bound of a `for`, which is a site before the names in it
+        (
+            b"spf 1 kernel { steps 1; loop a (i in 0 .. 1) { for p in 4194304 + 1 .. 0 { } } } script { } input { }",
+            8,
+            b"range: a 0 site 1 value 4194305\n",
+        ),
+        // the target behind the value
+        (
+            b"spf 1 kernel { data x[1]; steps 1; loop a (i in 0 .. 1) { x[1] = x[2]; } } script { } input { x = 0; }",
+            8,
+            b"range: a 0 site 2 value 2\n",
+        ),
+        (
+            b"spf 1 kernel { data x[1]; steps 1; loop a (i in 0 .. 1) { x[1] = 0; } } script { } input { x = 0; }",
+            8,
+            b"range: a 0 site 1 value 1\n",
+        ),
+        (
+            b"spf 1 kernel { param n; data x[n]; steps 4194304; loop a (i in 0 .. n) { } } script { } input { n = 2; x = 1 2; }",
+            12,
+            b"limit: units 8388608\n",
+        ),
+        // five accesses in each of 4194304 steps
+        (
+            b"spf 1 kernel { data x[1]; steps 4194304; loop a (i in 0 .. 1) { x[0] = x[0] + x[0] + x[0] + x[0]; } } script { } input { x = 1; }",
+            12,
+            b"limit: visits 20971520\n",
+        ),
+        // an access is counted before its place is looked at
+        (
+            b"spf 1 kernel { data x[1]; steps 4194304; loop a (i in 0 .. 1) { x[1] = x[0] + x[0] + x[0] + x[0]; } } script { } input { x = 1; }",
+            12,
+            b"limit: visits 20971520\n",
+        ),
+        (
+            b"spf 1 kernel { data x[1]; steps 1; loop a (i in 0 .. 1) { } } script { lexgroup a by x; } input { x = 1; }",
+            14,
+            b"later\n",
+        ),
     ];
-    for (input, outcome, line) in rows {
+    for (input, status, line) in rows {
         let ran = run(rt.alloc(), &["run"], input, &[], &[])?;
-        assert_eq!(rt; ran.outcome, outcome);
+        assert_eq!(rt; ran.status, status);
         assert!(rt; ran.out.is_empty());
         assert_eq!(rt; ran.err.as_slice(), line);
     }
     Ok(())
 }
 
-/// What a run on so many blanks ends with, and its line.
-fn run_blanks(alloc: Global, count: usize) -> Result<(Outcome, Vec<u8>), Fail> {
+/// For each rule of inputs a bundle that just meets it, and one that just breaks it, which is told by this line.
+const RULES: [(&[u8], &[u8], &[u8]); 15] = [
+    (
+        b"spf 1 kernel { param n; steps 1; } script { } input { n = 1; }",
+        b"spf 1 kernel { param n; steps 1; } script { } input { n = 1; q = 2; n = 3; }",
+        b"input: q 0 rule 1\n",
+    ),
+    (
+        b"spf 1 kernel { param n, m; steps 1; } script { } input { m = 1; n = 2; }",
+        b"spf 1 kernel { param n, m; steps 1; } script { } input { n = 1; n = 2; }",
+        b"input: n 0 rule 2\n",
+    ),
+    (
+        b"spf 1 kernel { param n; data x[0]; steps 1; } script { } input { x = ; n = 1; }",
+        b"spf 1 kernel { param n; data x[0]; steps 1; } script { } input { n = 4194305; }",
+        b"input: x 0 rule 3\n",
+    ),
+    (
+        b"spf 1 kernel { param n; steps 1; } script { } input { n = 4194304; }",
+        b"spf 1 kernel { param n; steps 1; } script { } input { n = 4194305; }",
+        b"input: n 0 rule 4\n",
+    ),
+    (
+        b"spf 1 kernel { param n; steps 1; } script { } input { n = -0; }",
+        b"spf 1 kernel { param n; steps 1; } script { } input { n = 1 2; }",
+        b"input: n 0 rule 4\n",
+    ),
+    (
+        b"spf 1 kernel { data x[2]; steps 1; } script { } input { x = 0 9223372036854775807; }",
+        b"spf 1 kernel { data x[2]; steps 1; } script { } input { x = 0 9223372036854775808; }",
+        b"input: x 1 rule 5\n",
+    ),
+    (
+        b"spf 1 kernel { param n; data x[n - 1]; steps 1; } script { } input { n = 1; x = ; }",
+        b"spf 1 kernel { param n; data x[n - 1]; steps 1; } script { } input { n = 0; x = ; }",
+        b"input: x 0 rule 6\n",
+    ),
+    (
+        b"spf 1 kernel { data x[2]; steps 1; } script { } input { x = 4 5; }",
+        b"spf 1 kernel { data x[2]; steps 1; } script { } input { x = 4 5 6; }",
+        b"input: x 3 rule 7\n",
+    ),
+    (
+        b"spf 1 kernel { index l[2] in 1 .. 3; steps 1; } script { } input { l = 1 2; }",
+        b"spf 1 kernel { index l[2] in 1 .. 3; steps 1; } script { } input { l = 1 3; }",
+        b"input: l 1 rule 8\n",
+    ),
+    (
+        b"spf 1 kernel { param n; index l[1] in 0 - n .. 1; steps 1; } script { } input { n = 4194304; l = -4194304; }",
+        b"spf 1 kernel { param n; index l[1] in 0 - n - 1 .. 1; steps 1; } script { } input { n = 4194304; l = -4194305; }",
+        b"input: l 0 rule 8\n",
+    ),
+    (
+        b"spf 1 kernel { index l[3] in 0 .. 3 monotone; steps 1; } script { } input { l = 0 1 1; }",
+        b"spf 1 kernel { index l[3] in 0 .. 3 monotone; steps 1; } script { } input { l = 0 1 0; }",
+        b"input: l 2 rule 9\n",
+    ),
+    (
+        b"spf 1 kernel { index l[3] in 0 .. 3 strict; steps 1; } script { } input { l = 0 1 2; }",
+        b"spf 1 kernel { index l[3] in 0 .. 3 strict; steps 1; } script { } input { l = 0 0 2; }",
+        b"input: l 1 rule 9\n",
+    ),
+    (
+        b"spf 1 kernel { param n; steps n; } script { } input { n = 4194304; }",
+        b"spf 1 kernel { param n; steps n + 1; } script { } input { n = 4194304; }",
+        b"input: steps 0 rule 10\n",
+    ),
+    (
+        b"spf 1 kernel { param n; steps n - 1; } script { } input { n = 1; }",
+        b"spf 1 kernel { param n; steps n - 1; } script { } input { n = 0; }",
+        b"input: steps 0 rule 10\n",
+    ),
+    (
+        b"spf 1 kernel { param n; steps 1; loop a (i in n - 1 .. n) { } } script { } input { n = 4194304; }",
+        b"spf 1 kernel { param n; steps 1; loop a (i in n .. n + 1) { } } script { } input { n = 4194304; }",
+        b"input: a 0 rule 11\n",
+    ),
+];
+
+#[test]
+fn each_rule_of_inputs_is_just_met_and_just_broken(rt: HostRuntime) -> Result<(), Fail> {
+    for (met, broken, line) in RULES {
+        let ran = run(rt.alloc(), &["run"], met, &[], &[])?;
+        assert_eq!(rt; ran.status, 0);
+        assert!(rt; ran.err.is_empty());
+        let ran = run(rt.alloc(), &["run"], broken, &[], &[])?;
+        assert_eq!(rt; ran.status, 7);
+        assert!(rt; ran.out.is_empty());
+        assert_eq!(rt; ran.err.as_slice(), line);
+    }
+    Ok(())
+}
+
+/// The exit status of a run on so many blanks, and its line.
+fn run_blanks(alloc: Global, count: usize) -> Result<(u8, Vec<u8>), Fail> {
     let mut words = Vec::new(alloc);
     words.push(String::from_str(alloc, "run")?)?;
     let spaces = vec![in alloc; b' '; count]?;
@@ -191,92 +295,34 @@ fn run_blanks(alloc: Global, count: usize) -> Result<(Outcome, Vec<u8>), Fail> {
     let mut out = MemSink::new(alloc, 100, 3, Vec::new(alloc))?;
     let mut err = MemSink::new(alloc, 100, 16, Vec::new(alloc))?;
     let outcome = command(alloc, &words, &mut source, &mut out, &mut err);
-    Ok((outcome, Vec::from_slice(alloc, err.written())?))
+    Ok((status(&outcome), Vec::from_slice(alloc, err.written())?))
 }
 
 #[test]
 fn one_byte_more_than_64_mib_is_too_many(rt: HostRuntime) -> Result<(), Fail> {
-    let (outcome, line) = run_blanks(rt.alloc(), 67_108_865)?;
-    assert_eq!(rt;
-        outcome,
-        Outcome::Limit {
-            what: What::Bytes,
-            count: 67_108_865
-        }
-    );
+    let (ended, line) = run_blanks(rt.alloc(), 67_108_865)?;
+    assert_eq!(rt; ended, 12);
     assert_eq!(rt; line.as_slice(), b"limit: bytes 67108865\n".as_slice());
-    let (outcome, line) = run_blanks(rt.alloc(), 67_108_864)?;
-    let place = Place {
-        line: 1,
-        column: 67_108_865,
-    };
-    assert_eq!(rt;
-        outcome,
-        Outcome::Text {
-            place,
-            kind: TextKind::End
-        }
-    );
+    let (ended, line) = run_blanks(rt.alloc(), 67_108_864)?;
+    assert_eq!(rt; ended, 5);
     assert_eq!(rt; line.as_slice(), b"text: 1:67108865 end\n".as_slice());
     Ok(())
 }
 
 #[test]
 fn a_refused_word_and_a_device_that_fails_are_told(rt: HostRuntime) -> Result<(), Fail> {
-    // The words, the calls of the source and of the sink that fail, the outcome, and what stands on both sinks.
-    let rows: [(&[&str], &[u32], &[u32], Outcome, &[u8], &[u8]); 6] = [
-        (
-            &[],
-            &[],
-            &[],
-            Outcome::Usage { word: 1 },
-            b"",
-            b"usage: word 1\n",
-        ),
-        (
-            &["walk"],
-            &[],
-            &[],
-            Outcome::Usage { word: 1 },
-            b"",
-            b"usage: word 1\n",
-        ),
-        (
-            &["run", "--trace"],
-            &[],
-            &[],
-            Outcome::Usage { word: 2 },
-            b"",
-            b"usage: word 2\n",
-        ),
-        (
-            &["run", "run", "run"],
-            &[],
-            &[],
-            Outcome::Usage { word: 2 },
-            b"",
-            b"usage: word 2\n",
-        ),
-        (
-            &["run"],
-            &[1],
-            &[],
-            Outcome::ReadFault,
-            b"",
-            b"read fault\n",
-        ),
-        (
-            &["run"],
-            &[],
-            &[1],
-            Outcome::WriteFault,
-            b"x 2",
-            b"write fault\n",
-        ),
+    // The words, the calls of the source and of the sink that fail, the exit status, and what stands on both sinks.
+    let rows: [(&[&str], &[u32], &[u32], u8, &[u8], &[u8]); 6] = [
+        (&[], &[], &[], 2, b"", b"usage: word 1\n"),
+        (&["walk"], &[], &[], 2, b"", b"usage: word 1\n"),
+        (&["run", "--trace"], &[], &[], 2, b"", b"usage: word 2\n"),
+        (&["run", "run", "run"], &[], &[], 2, b"", b"usage: word 2\n"),
+        (&["run"], &[1], &[], 3, b"", b"read fault\n"),
+        (&["run"], &[], &[1], 4, b"x 2", b"write fault\n"),
     ];
-    for (words, read_faults, write_faults, outcome, out, line) in rows {
+    for (words, read_faults, write_faults, status, out, line) in rows {
         let ran = run(rt.alloc(), words, INCREMENT, read_faults, write_faults)?;
-        assert_eq!(rt; ran.outcome, outcome);
+        assert_eq!(rt; ran.status, status);
         assert_eq!(rt; ran.out.as_slice(), out);
         assert_eq!(rt; ran.err.as_slice(), line);
     }
@@ -284,22 +330,36 @@ fn a_refused_word_and_a_device_that_fails_are_told(rt: HostRuntime) -> Result<()
 }
 
 #[test]
-fn each_outcome_has_its_status(rt: HostRuntime) {
+fn each_outcome_has_its_status(rt: HostRuntime) -> Result<(), Fail> {
     let place = Place { line: 1, column: 1 };
+    let kind = TextKind::End;
+    let name = Name::copy(rt.alloc(), b"x")?;
+    let (loop_no, iteration, site, value) = (0, -1, 1, -1);
     let rows = [
         (Outcome::Done, 0),
         (Outcome::Memory, 1),
         (Outcome::Usage { word: 1 }, 2),
         (Outcome::ReadFault, 3),
         (Outcome::WriteFault, 4),
-        (
-            Outcome::Text {
-                place,
-                kind: TextKind::End,
-            },
-            5,
-        ),
+        (Outcome::Text { place, kind }, 5),
         (Outcome::Kernel { place, rule: 4 }, 6),
+        (
+            Outcome::Input {
+                name,
+                place: 0,
+                rule: 1,
+            },
+            7,
+        ),
+        (
+            Outcome::Range {
+                loop_no,
+                iteration,
+                site,
+                value,
+            },
+            8,
+        ),
         (
             Outcome::Limit {
                 what: What::Bytes,
@@ -309,7 +369,8 @@ fn each_outcome_has_its_status(rt: HostRuntime) {
         ),
         (Outcome::Later, 14),
     ];
-    for (outcome, wanted) in rows {
-        assert_eq!(rt; status(&outcome), wanted);
+    for (outcome, wanted) in &rows {
+        assert_eq!(rt; status(outcome), *wanted);
     }
+    Ok(())
 }

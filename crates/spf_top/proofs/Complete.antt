@@ -5,19 +5,18 @@ use Rattle.std.proofs.lemmas.Bool.{cases_lt}
 use Rattle.std.proofs.lemmas.List.{length-append, take-append-drop}
 use Rattle.spf_io.specs.Stream.{Takes}
 use Rattle.spf_top.specs.declared.outcome.What.TheVariants.{Bytes}
-use Rattle.spf_kernel.specs.declared.tree.Tree.{Tree}
-use Rattle.spf_input.specs.Answer.{IsAnswer}
+use Rattle.spf_input.specs.Answer.{IsBundleAnswer}
 use Rattle.spf_input.specs.Stage.{OneAnswer, ◌then◌}
+use Rattle.spf_input.specs.declared.reading.Bundle.{Bundle}
 use Rattle.spf_input.specs.declared.fault.InputFault.{InputFault}
 use Rattle.spf_input.specs.declared.fault.InputFault.TheVariants as input
-use Rattle.spf_input.proofs.OneBundle.{one_bundle}
+use Rattle.spf_input.proofs.OneBundle.{one_whole_bundle}
 use Rattle.spf_input.proofs.Stages.{one_then}
 use Rattle.spf_top.specs.declared.outcome.Outcome.{Outcome}
-use Rattle.spf_top.specs.declared.outcome.Outcome.TheVariants.{Done, Memory, Usage, ReadFault, WriteFault, Text, Kernel, Limit, Later}
+use Rattle.spf_top.specs.declared.outcome.Outcome.TheVariants.{Done, Memory, Usage, ReadFault, WriteFault, Text, Kernel, Input, Range, Limit, Later}
 use Rattle.spf_top.specs.Outcome.{refused}
-use Rattle.spf_top.specs.FirstForm.{Form}
 use Rattle.spf_top.specs.Words.{IsAccepted, IsRefusedAt}
-use Rattle.spf_top.specs.Command.{AnswersWords, AnswersInput, IsDoneOrMemory, IsFirstForm, IsOfBytes, runs_first_form, runs}
+use Rattle.spf_top.specs.Command.{AnswersWords, AnswersInput, IsDoneOrMemory, IsOfBytes, NamesLoop, NamesLoopOf, checks, counts_units, executes, fits, reads, runs, walks}
 
 -- accepted words are refused at no word
 not_refused : (words : List (List ℕ)) (word : ℕ) → IsAccepted words → IsRefusedAt words word → ⊥
@@ -27,36 +26,76 @@ not_refused words word accepted refused =
       | inr within ↦ refused.here within (drop word words, take-append-drop word words ∙ accepted)
     ]
 
--- the fault that a bundle with a kernel answers is want of memory
-only_memory : (bytes : List ℕ) (tree : Tree) (fault : InputFault) → IsAnswer bytes (Ok tree) → IsAnswer bytes (Err fault) → fault ≡ input.Memory
-only_memory bytes tree fault kept failed = by (Err fault) refl (one_bundle bytes tree (Err fault) kept failed) where
-  by : (answer : Result Tree InputFault) → answer ≡ Err fault → (answer ≡ Ok tree) ⊎ (answer ≡ Err input.Memory) → fault ≡ input.Memory
-  by answer is (inl e) = absurd cc
-  by answer is (inr e) = cc
+-- ---- each stage has one answer
 
--- bytes of the first form are refused for want of memory alone
-form_refused : (bytes : List ℕ) (refusal : Outcome) (form : Form) → IsFirstForm bytes form → runs_first_form bytes (Err refusal) → refusal ≡ Memory
-form_refused bytes Later form is none = absurd (none form is)
-form_refused bytes Done form is e = e
-form_refused bytes Memory form is e = e
-form_refused bytes (Usage word) form is e = e
-form_refused bytes ReadFault form is e = e
-form_refused bytes WriteFault form is e = e
-form_refused bytes (Text place kind) form is e = e
-form_refused bytes (Kernel place rule) form is e = e
-form_refused bytes (Limit what count) form is e = e
+one_fits : OneAnswer Memory fits
+one_fits bytes same (Ok other) fit fit_too = inl (ap Ok (fit_too.0 ∙ sym fit.0))
+one_fits bytes same (Err refusal) fit long = absurd (omega (arith, fit.1, long.1))
+
+refused_memory : (bundle : Bundle) (fault : InputFault) (answer : Result Bundle InputFault) → answer ≡ Err fault → (answer ≡ Ok bundle) ⊎ (answer ≡ Err input.Memory) → refused fault ≡ Memory
+refused_memory bundle fault answer is (inl e) = absurd cc
+refused_memory bundle fault answer is (inr e) = let f : fault ≡ input.Memory = cc in ap refused f
+
+ok_too : (bundle other : Bundle) (answer : Result Bundle InputFault) → answer ≡ Ok other → (answer ≡ Ok bundle) ⊎ (answer ≡ Err input.Memory) → other ≡ bundle
+ok_too bundle other answer is (inl e) = cc
+ok_too bundle other answer is (inr e) = absurd cc
+
+pub one_reads : OneAnswer Memory reads
+one_reads bytes bundle (Ok other) is is_too = inl (ap Ok (ok_too bundle other (Ok other) refl (one_whole_bundle bytes bundle (Ok other) is is_too)))
+one_reads bytes bundle (Err refusal) is (fault, failed, refused_is) =
+    inr (ap Err (refused_is ∙ refused_memory bundle fault (Err fault) refl (one_whole_bundle bytes bundle (Err fault) is failed)))
+
+one_counts_units : OneAnswer Memory counts_units
+one_counts_units bundle same (Ok other) few few_too = inl (ap Ok (few_too.0 ∙ sym few.0))
+one_counts_units bundle same (Err refusal) few (inl many) = absurd (omega (arith, few.1, many.1))
+one_counts_units bundle same (Err refusal) few (inr e) = inr (ap Err e)
+
+one_walks : OneAnswer Memory walks
+one_walks bundle same (Ok other) none none_too = inl (ap Ok (none_too.0 ∙ sym none.0))
+one_walks bundle same (Err refusal) none (inl some) = let e = sym none.1 ∙ some.1 in absurd cc
+one_walks bundle same (Err refusal) none (inr e) = inr (ap Err e)
+
+one_executes : OneAnswer Memory executes
+one_executes bundle text (Ok other) ran ran_too = inl (ap Ok (ran_too.1 ∙ sym ran.1))
+one_executes bundle text (Err refusal) ran (inl later) = absurd (later.1 ran.0)
+one_executes bundle text (Err refusal) ran (inr e) = inr (ap Err e)
+
+one_runs : OneAnswer Memory runs
+unfolding runs
+one_runs =
+    one_then Memory fits (reads then (checks then executes)) one_fits
+    (one_then Memory reads (checks then executes) one_reads (one_then Memory checks executes (one_then Memory counts_units walks one_counts_units one_walks) one_executes))
 
 -- bytes for which a text is written are refused for want of memory alone
 refused_for_memory : (bytes text : List ℕ) (refusal : Outcome) → runs bytes (Ok text) → runs bytes (Err refusal) → refusal ≡ Memory
+refused_for_memory bytes text refusal ran refused = by (Err refusal) refl (one_runs bytes text (Err refusal) ran refused) where
+  by : (answer : Result (List ℕ) Outcome) → answer ≡ Err refusal → (answer ≡ Ok text) ⊎ (answer ≡ Err Memory) → refusal ≡ Memory
+  by answer is (inl e) = absurd cc
+  by answer is (inr e) = cc
+
+-- ---- the name of a loop
+
+-- the bytes are one bundle, so that a name that is right for it is the right one
+pub names_loop : (bytes : List ℕ) (bundle : Bundle) (outcome : Outcome) (name : List ℕ) → reads bytes (Ok bundle) → NamesLoop bundle.kernel outcome name → NamesLoopOf bytes outcome name
+names_loop bytes bundle outcome name is named other is_too =
+    subst (λ (given : Bundle). NamesLoop given.kernel outcome name) (sym (ok_too bundle other (Ok other) refl (one_whole_bundle bytes bundle (Ok other) is is_too))) named
+
+-- a text that is no bundle isn't refused in a loop
+pub no_loop : (bytes : List ℕ) (fault : InputFault) (name : List ℕ) → NamesLoopOf bytes (refused fault) name
+no_loop bytes (input.Text place kind) name bundle is = tt
+no_loop bytes (input.Kernel place rule) name bundle is = tt
+no_loop bytes (input.Input given place rule) name bundle is = tt
+no_loop bytes input.Memory name bundle is = tt
+
+-- ---- the stages one behind the other
+
+pub refused_in_checks : (bytes : List ℕ) (bundle : Bundle) (refusal outcome : Outcome) → length bytes ≤ 67108864 → reads bytes (Ok bundle) → checks bundle (Err refusal)
+    → (outcome ≡ refusal) ⊎ (outcome ≡ Memory) → runs bytes (Err outcome)
 unfolding runs
-refused_for_memory bytes text refusal (same, (same_is, short), ran) (inl (is, long)) = absurd (omega (arith, short, long))
-refused_for_memory bytes text refusal (same, (same_is, short), (again, (again_is, tree, kept), form)) (inr (other, (other_is, short_too), inl (fault, failed, is))) =
-    let bytes_kept : IsAnswer bytes (Ok tree) = subst (λ (bs : List ℕ). IsAnswer bs (Ok tree)) same_is kept in
-    let bytes_failed : IsAnswer bytes (Err fault) = subst (λ (bs : List ℕ). IsAnswer bs (Err fault)) other_is failed in
-    is ∙ ap refused (only_memory bytes tree fault bytes_kept bytes_failed)
-refused_for_memory bytes text refusal (same, (same_is, short), (again, (again_is, tree, kept), form)) (inr (other, (other_is, short_too), inr (others, (others_is, other_tree, whole), unformed))) =
-    let is : again ≡ others = again_is ∙ same_is ∙ sym other_is ∙ sym others_is in
-    form_refused others refusal form.0 (subst (λ (bs : List ℕ). IsFirstForm bs form.0) is form.1) unformed
+refused_in_checks bytes bundle refusal outcome short read refused (inl same) = rw same (inr (bytes, (refl, short), inr (bundle, read, inl refused)))
+refused_in_checks bytes bundle refusal outcome short read refused (inr memory) = rw memory (inr (bytes, (refl, short), inr (bundle, read, inl (inl (inr refl)))))
+
+-- ---- the call
 
 module _ (words : List (List ℕ)) (bytes : List ℕ) (before after : Option (List ℕ)) (R W : Type 0) where
   by_outcome : (outcome : Outcome) → AnswersWords words outcome → AnswersInput bytes before after outcome → (outcome ≡ ReadFault → R) → (outcome ≡ WriteFault → W) → IsAccepted words
@@ -68,6 +107,8 @@ module _ (words : List (List ℕ)) (bytes : List ℕ) (before after : Option (Li
   by_outcome WriteFault answers input read write accepted text ran not_read not_write = absurd (not_write (write refl))
   by_outcome (Text place kind) answers input read write accepted text ran not_read not_write = let e = refused_for_memory bytes text (Text place kind) ran input in absurd cc
   by_outcome (Kernel place rule) answers input read write accepted text ran not_read not_write = let e = refused_for_memory bytes text (Kernel place rule) ran input in absurd cc
+  by_outcome (Input name place rule) answers input read write accepted text ran not_read not_write = let e = refused_for_memory bytes text (Input name place rule) ran input in absurd cc
+  by_outcome (Range loop_no iteration site value) answers input read write accepted text ran not_read not_write = let e = refused_for_memory bytes text (Range loop_no iteration site value) ran input in absurd cc
   by_outcome (Limit what count) answers input read write accepted text ran not_read not_write = let e = refused_for_memory bytes text (Limit what count) ran input in absurd cc
   by_outcome Later answers input read write accepted text ran not_read not_write = let e = refused_for_memory bytes text Later ran input in absurd cc
 
@@ -91,6 +132,8 @@ refusal_answers bytes before after ReadFault own refused = absurd own
 refusal_answers bytes before after WriteFault own refused = absurd own
 refusal_answers bytes before after (Text place kind) own refused = refused
 refusal_answers bytes before after (Kernel place rule) own refused = refused
+refusal_answers bytes before after (Input name place rule) own refused = refused
+refusal_answers bytes before after (Range loop_no iteration site value) own refused = refused
 refusal_answers bytes before after (Limit what count) own refused = refused
 refusal_answers bytes before after Later own refused = refused
 
@@ -103,6 +146,8 @@ words_accepted words ReadFault own accepted = accepted
 words_accepted words WriteFault own accepted = accepted
 words_accepted words (Text place kind) own accepted = accepted
 words_accepted words (Kernel place rule) own accepted = accepted
+words_accepted words (Input name place rule) own accepted = accepted
+words_accepted words (Range loop_no iteration site value) own accepted = accepted
 words_accepted words (Limit what count) own accepted = accepted
 words_accepted words Later own accepted = accepted
 

@@ -1,12 +1,5 @@
 pub mod Command
-pub mod Entry
-pub mod FirstForm
-pub mod Kind
 pub mod Outcome
-pub mod Reading
 pub mod Report
-pub mod SameKind
-pub mod SourceResult
 pub mod Texts
-pub mod Token
 pub mod Words

@@ -1,104 +1,89 @@
 //! The command that the program carries out.
 
-ghost use Rattle.std.specs.Prelude.{◌≡◌, ℕ, ◌≤◌, List, [], length, map, Ok, Err, IfOk, IfErr, IfSome, IfNone, string_bytes};
+ghost use Rattle.std.specs.Prelude.{◌≡◌, ℕ, ◌≤◌, List, [], length, map, Ok, Err, IfOk, IfErr, IfSome, string_bytes};
 ghost use Rattle.spf_io.specs.Stream.{Rose};
-ghost use Rattle.spf_top.specs.FirstForm.{Form};
-ghost use Rattle.spf_top.specs.Texts.{text_of};
 ghost use Rattle.spf_top.specs.Words.{IsAccepted};
 ghost use Rattle.spf_top.specs.Outcome.{line_of};
 ghost use Rattle.spf_top.specs.Report.{AppendsOrFails};
-ghost use Rattle.spf_top.specs.Command.{IsFirstForm, AnswersWords, AnswersInput, IsOfBytes, IsQuiet, IsDoneOrMemory, runs};
+ghost use Rattle.spf_top.specs.Command.{AnswersWords, AnswersInput, IsOfBytes, IsQuiet, IsDoneOrMemory, NamesLoopOf, runs};
 
-use crate::bundle::result_text;
-use crate::first_form::first_form;
 use crate::outcome::{Outcome, What, refusal};
 use crate::report::report;
-use crate::token::classify;
+use crate::stages::{Ended, check, execute, kept, with_loop_name};
 use crate::words::refused_word;
-use spf_base::NoMemory;
-use spf_input::read_kernel;
+use spf_input::read_bundle;
 use spf_io::{Failed, ReadAll, Sink, Source, read_all, write_all};
-use spf_lex::{LexFault, one_reading, tokens};
 use std::alloc::Global;
 
-/// The text of the result, where the bytes are a bundle of the first form. Linear in the bytes and the units.
-fn first_form_text(alloc: Global, bytes: &[u8]) -> Result<Option<Vec<u8>>, NoMemory>
-    requires { length bytes.now ≤ 67108864 }
-    ensures found { IfOk result (λ found. IfSome found (λ text. (form : Form) × IsFirstForm bytes.now form × (text.items ≡ text_of form))) }
-    ensures none { IfOk result (λ found. IfNone found ((form : Form) → ¬ IsFirstForm bytes.now form)) }
+/// The outcome, which is in no loop.
+fn without_loop(alloc: Global, outcome: Outcome) -> Ended
+    ensures outcome { result.outcome ≡ outcome }
 {
-    one_reading();
-    let tokens = match tokens(alloc, bytes) {
-        Ok(tokens) => tokens,
-        Err(LexFault::NoToken { .. }) => return Ok(None),
-        Err(LexFault::Memory) => return Err(NoMemory),
-    };
-    let tokens = classify(alloc, &tokens)?;
-    match first_form(alloc, &tokens)? {
-        None => Ok(None),
-        Some(form) => result_text(alloc, &form),
+    Ended {
+        outcome,
+        loop_name: Vec::new(alloc),
     }
 }
 
-/// What `run` writes for these bytes, or why it refuses them. Linear in the bytes and the units.
-fn run_text(alloc: Global, bytes: &[u8]) -> Result<Vec<u8>, Outcome>
+/// What `run` writes for these bytes, or why it refuses them. Linear in the bytes and the visits.
+fn run_text(alloc: Global, bytes: &[u8]) -> Result<Vec<u8>, Ended>
     requires { length bytes.now ≤ 67108864 }
-    ensures found { IfOk result (λ text. runs bytes.now (Ok text.items)) }
-    ensures refused { IfErr result (λ refusal. runs bytes.now (Err refusal)) }
-    ensures of_bytes { IfErr result IsOfBytes }
+    ensures text { IfOk result (λ text. runs bytes.now (Ok text.items)) }
+    ensures refused { IfErr result (λ ended. runs bytes.now (Err ended.outcome)) }
+    ensures of_bytes { IfErr result (λ ended. IsOfBytes ended.outcome) }
+    ensures named { IfErr result (λ ended. NamesLoopOf bytes.now ended.outcome ended.loop_name.items) }
 {
-    match read_kernel(alloc, bytes) {
-        Ok(_kernel) => {}
-        Err(fault) => return Err(refusal(fault)),
+    let bundle = match read_bundle(alloc, bytes) {
+        Ok(bundle) => bundle,
+        Err(fault) => return Err(without_loop(alloc, refusal(fault))),
+    };
+    kept(&bundle);
+    match check(alloc, &bundle) {
+        Ok(()) => {}
+        Err(refusal) => return Err(with_loop_name(alloc, &bundle.kernel, refusal)),
     }
-    match first_form_text(alloc, bytes) {
-        Ok(Some(text)) => Ok(text),
-        Ok(None) => Err(Outcome::Later),
-        Err(NoMemory) => Err(Outcome::Memory),
+    match execute(alloc, bundle) {
+        Ok(text) => Ok(text),
+        Err(refusal) => Err(without_loop(alloc, refusal)),
     }
 }
 
 /// All of the command but the line on standard error.
-fn answer<S: Source, K: Sink>(
-    alloc: Global,
-    words: &[String],
-    source: &mut S,
-    out: &mut K,
-) -> Outcome
-    ensures words { AnswersWords (map string_bytes words.now) result }
-    ensures input { IfSome (S.held source.old) (λ bytes. AnswersInput bytes (K.written out.old) (K.written out.new) result) }
-    ensures to_the_end { result ≡ Outcome.Done → IfSome (S.held source.new) (λ rest. rest ≡ []) }
-    ensures unread { (word : ℕ) → result ≡ Outcome.Usage word → source.new ≡ source.old }
-    ensures quiet { IsQuiet result → out.new ≡ out.old }
-    ensures read_fault { result ≡ Outcome.ReadFault → Rose (S.faults source.old) (S.faults source.new) }
-    ensures write_fault { result ≡ Outcome.WriteFault → Rose (K.faults out.old) (K.faults out.new) }
+fn answer<S: Source, K: Sink>(alloc: Global, words: &[String], source: &mut S, out: &mut K) -> Ended
+    ensures words { AnswersWords (map string_bytes words.now) result.outcome }
+    ensures input { IfSome (S.held source.old) (λ bytes. AnswersInput bytes (K.written out.old) (K.written out.new) result.outcome) }
+    ensures named { IfSome (S.held source.old) (λ bytes. NamesLoopOf bytes result.outcome result.loop_name.items) }
+    ensures to_the_end { result.outcome ≡ Outcome.Done → IfSome (S.held source.new) (λ rest. rest ≡ []) }
+    ensures unread { (word : ℕ) → result.outcome ≡ Outcome.Usage word → source.new ≡ source.old }
+    ensures quiet { IsQuiet result.outcome → out.new ≡ out.old }
+    ensures read_fault { result.outcome ≡ Outcome.ReadFault → Rose (S.faults source.old) (S.faults source.new) }
+    ensures write_fault { result.outcome ≡ Outcome.WriteFault → Rose (K.faults out.old) (K.faults out.new) }
 {
     if let Some(word) = refused_word(words) {
-        return Outcome::Usage { word };
+        return without_loop(alloc, Outcome::Usage { word });
     }
     let bytes = match read_all(alloc, source) {
         Ok(bytes) => bytes,
-        Err(ReadAll::Memory) => return Outcome::Memory,
-        Err(ReadAll::Fault) => return Outcome::ReadFault,
+        Err(ReadAll::Memory) => return without_loop(alloc, Outcome::Memory),
+        Err(ReadAll::Fault) => return without_loop(alloc, Outcome::ReadFault),
         Err(ReadAll::TooLong) => {
-            return Outcome::Limit {
-                what: What::Bytes,
-                count: 67_108_865,
-            };
+            let what = What::Bytes;
+            let count = 67_108_865;
+            return without_loop(alloc, Outcome::Limit { what, count });
         }
     };
     let text = match run_text(alloc, &bytes) {
         Ok(text) => text,
-        Err(refusal) => return refusal,
+        Err(ended) => return ended,
     };
     match write_all(out, &text) {
-        Ok(()) => Outcome::Done,
-        Err(Failed) => Outcome::WriteFault,
+        Ok(()) => without_loop(alloc, Outcome::Done),
+        Err(Failed) => without_loop(alloc, Outcome::WriteFault),
     }
 }
 
 /// Carries out the command that the words ask for: it reads the bundle from `source`, writes the text of its result on
-/// `out` in one piece, and a line for any other outcome than `Done` on `err`. Linear in the bytes and in the units.
+/// `out` in one piece, and a line for any other outcome than `Done` on `err`. Linear in the bytes and in the visits.
 pub fn command<S: Source, K: Sink, E: Sink>(
     alloc: Global,
     words: &[String],
@@ -119,14 +104,15 @@ pub fn command<S: Source, K: Sink, E: Sink>(
     ensures read_fault { result ≡ Outcome.ReadFault → Rose (S.faults source.old) (S.faults source.new) }
     ensures write_fault { result ≡ Outcome.WriteFault → Rose (K.faults out.old) (K.faults out.new) }
 
-    // The line of the outcome, or a front of it where `err` failed.
-    ensures line { AppendsOrFails (E.written err.old) (E.faults err.old) (line_of result) (E.written err.new) (E.faults err.new) }
+    // The line of the outcome, or a front of it where `err` failed. A range fault's loop stands there by its name.
+    ensures line { (name : List ℕ) × IfSome (S.held source.old) (λ bytes. NamesLoopOf bytes result name)
+        × AppendsOrFails (E.written err.old) (E.faults err.old) (line_of name result) (E.written err.new) (E.faults err.new) }
 
     // Nothing but want of memory keeps an accepted bundle from its result.
     ensures complete { IsAccepted (map string_bytes words.now) → IfSome (S.held source.old) (λ bytes. (text : List ℕ) → runs bytes (Ok text)
         → ¬ Rose (S.faults source.old) (S.faults source.new) → ¬ Rose (K.faults out.old) (K.faults out.new) → IsDoneOrMemory result) }
 {
-    let outcome = answer(alloc, words, source, out);
-    report(err, &outcome);
-    outcome
+    let ended = answer(alloc, words, source, out);
+    report(err, &ended.outcome, ended.loop_name.as_slice());
+    ended.outcome
 }

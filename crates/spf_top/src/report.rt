@@ -36,12 +36,14 @@ fn what_word(what: What) -> &'static [u8]
 {
     match what {
         What::Bytes => b"bytes",
+        What::Units => b"units",
+        What::Visits => b"visits",
     }
 }
 
 /// Writes the line of an outcome, which `Done` has not. A failing sink changes nothing else.
-pub fn report<E: Sink>(err: &mut E, outcome: &Outcome)
-    ensures { AppendsOrFails (E.written err.old) (E.faults err.old) (line_of outcome.now) (E.written err.new) (E.faults err.new) }
+pub fn report<E: Sink>(err: &mut E, outcome: &Outcome, loop_name: &[u8])
+    ensures { AppendsOrFails (E.written err.old) (E.faults err.old) (line_of loop_name.now outcome.now) (E.written err.new) (E.faults err.new) }
 {
     let (mut first, mut second, mut third) = (Buffer::new(), Buffer::new(), Buffer::new());
     match outcome {
@@ -82,6 +84,46 @@ pub fn report<E: Sink>(err: &mut E, outcome: &Outcome)
                     column,
                     b" rule ".as_slice(),
                     rule,
+                    b"\n".as_slice(),
+                ],
+            );
+        }
+        Outcome::Input { name, place, rule } => {
+            let place = first.format(*place).as_bytes();
+            let rule = second.format(*rule).as_bytes();
+            write_pieces(
+                err,
+                &[
+                    b"input: ".as_slice(),
+                    name.bytes(),
+                    b" ".as_slice(),
+                    place,
+                    b" rule ".as_slice(),
+                    rule,
+                    b"\n".as_slice(),
+                ],
+            );
+        }
+        Outcome::Range {
+            iteration,
+            site,
+            value,
+            ..
+        } => {
+            let iteration = first.format(*iteration).as_bytes();
+            let site = second.format(*site).as_bytes();
+            let value = third.format(*value).as_bytes();
+            write_pieces(
+                err,
+                &[
+                    b"range: ".as_slice(),
+                    loop_name,
+                    b" ".as_slice(),
+                    iteration,
+                    b" site ".as_slice(),
+                    site,
+                    b" value ".as_slice(),
+                    value,
                     b"\n".as_slice(),
                 ],
             );

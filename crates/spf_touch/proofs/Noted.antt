@@ -25,7 +25,7 @@ pub noted_new : (ts : List Touch) (e : ℕ) (c : Class) → NotBefore ts (length
 noted_new [] e c not = refl
 noted_new (t ∷ ts) e c not = rw (ne_eqb t.element e (not 0 t (omega arith))) (ap (λ l. t ∷ l) (noted_new ts e c (λ k d h. not (suc k) d (omega arith))))
 
-length_noted : (ts : List Touch) (e : ℕ) (c : Class) → length (noted ts e c) ≤ length ts + 1
+pub length_noted : (ts : List Touch) (e : ℕ) (c : Class) → length (noted ts e c) ≤ length ts + 1
 length_noted [] e c = omega arith
 length_noted (t ∷ ts) e c = elim (cases_Bool (eqb t.element e)) [
   | inl here ↦ rw here (omega arith)

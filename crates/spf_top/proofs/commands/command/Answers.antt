@@ -5,7 +5,7 @@ use Rattle.spf_top.proofs.commands.command.Goals as goal
 
 pub returns-clause-complete : goal.returns-clause-complete
 returns-clause-complete g c =
-    let said = c.answer-outcome.ensures in
-    completes (map string_bytes c.args.words.now) (g.S.Source.held c.args.source.now) (g.K.Sink.written c.args.out.now) (g.K.Sink.written c.answer-outcome.new.out)
-    (Rose (g.S.Source.faults c.args.source.now) (g.S.Source.faults c.answer-outcome.new.source)) (Rose (g.K.Sink.faults c.args.out.now) (g.K.Sink.faults c.answer-outcome.new.out))
-    c.answer-outcome.result said.words said.input said.read_fault said.write_fault
+    let said = c.answer-ended.ensures in
+    completes (map string_bytes c.args.words.now) (g.S.Source.held c.args.source.now) (g.K.Sink.written c.args.out.now) (g.K.Sink.written c.answer-ended.new.out)
+    (Rose (g.S.Source.faults c.args.source.now) (g.S.Source.faults c.answer-ended.new.source)) (Rose (g.K.Sink.faults c.args.out.now) (g.K.Sink.faults c.answer-ended.new.out))
+    c.answer-ended.result.outcome said.words said.input said.read_fault said.write_fault
