@@ -1,2 +1,3 @@
 pub mod Standing
 pub mod Textual
+pub mod Placed

@@ -6,14 +6,11 @@ use Rattle.std.proofs.lemmas.Option.{slice_get_within}
 use Rattle.std.proofs.Math.Seq.{take-length}
 use Rattle.std.proofs.Math.Nat.{div-lt_iff_lt-mul, mod-lt, suc-mul}
 use Rattle.spf_space.specs.Layout.{iterations}
+use Rattle.spf_space.specs.Places.{ordinal_of}
 use Rattle.spf_space.specs.Units.{IsEarlier, IsUnitOf, loops_units, units_of}
 use Rattle.spf_space.specs.declared.shape.LoopShape.{LoopShape}
 use Rattle.spf_space.specs.declared.unit.Unit.{Unit}
 use Rattle.spf_space.proofs.Standing.{before, in_all, in_step, iterations-cons, unit_at, units_length}
-
--- what the numbers of a unit say of its place
-abbrev pub ordinal_of : List LoopShape → Unit → ℕ
-ordinal_of loops u = u.step * iterations loops + before loops u.loop_no + u.position
 
 -- a loop, a position in it, and the place of both among the iterations of one step
 record Located (loops : List LoopShape) (place : ℕ) : Type 0 where
@@ -74,13 +71,13 @@ module _ (steps : ℕ) (loops : List LoopShape) where
       let same : v ≡ u = cc in
       subst (λ (w : Unit). IsUnitOf steps loops w × (n ≡ ordinal_of loops w)) same (is, sym at)
 
-  ascends : (u v : Unit) → IsUnitOf steps loops u → IsUnitOf steps loops v → IsEarlier u v → ordinal_of loops u < ordinal_of loops v
+  pub ascends : (u v : Unit) → IsUnitOf steps loops u → IsUnitOf steps loops v → IsEarlier u v → ordinal_of loops u < ordinal_of loops v
   ascends u v is_u is_v (inl step) =
       omega (arith, in_reach loops u.loop_no is_u.loop is_u.there, is_u.position, suc-mul u.step (iterations loops), mul-le (suc u.step) (iterations loops) v.step (iterations loops) (omega arith) (omega arith))
   ascends u v is_u is_v (inr (step, inl number)) = rw step (omega (arith, climbs loops u.loop_no v.loop_no is_u.loop is_u.there number, is_u.position))
   ascends u v is_u is_v (inr (step, inr (number, position))) = rw (step, number) (omega arith)
 
-  descends : (u v : Unit) → IsUnitOf steps loops u → IsUnitOf steps loops v → ordinal_of loops u < ordinal_of loops v → IsEarlier u v
+  pub descends : (u v : Unit) → IsUnitOf steps loops u → IsUnitOf steps loops v → ordinal_of loops u < ordinal_of loops v → IsEarlier u v
   descends u v is_u is_v lt = elim (cases_order u.step v.step) [
     | inr (inl earlier) ↦ inl earlier
     | inr (inr later) ↦ absurd (never (inl later))

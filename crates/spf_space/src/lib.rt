@@ -5,11 +5,16 @@
 //! the list of all units in textual order (`units_of`), and `split` finds the unit at a place of that list; a unit stands
 //! before another in textual order exactly where its ordinal is the lesser (`ordinals_are_textual_order`).
 //!
-//! It stands on spf_base for names. Its calls are linear in the loops, of which a kernel has at most 32, and take no memory.
+//! Places say in which tile each unit is run, and each loop in which order: a unit is run before another exactly where its
+//! place's number is the lesser (`numbers_are_places`).
+//!
+//! It stands on spf_base for names and on spf_perm for the orders of loops. Its calls are linear in the loops, of which a kernel has at most 32, and take no memory.
 #![tactic(auto)]
 
+mod places;
 mod shape;
 mod unit;
 
+pub use places::{Places, numbers_are_places};
 pub use shape::{ArrayShape, LoopShape, Shape};
 pub use unit::{Unit, ordinals_are_textual_order};

@@ -1,6 +1,6 @@
 //! How large the loops and arrays of a kernel are.
 
-ghost use Rattle.std.specs.Prelude.{◌≡◌, ◌<◌, ◌*◌, ◌^◌, length, slice_get, Some};
+ghost use Rattle.std.specs.Prelude.{◌≡◌, ◌<◌, ◌≤◌, ◌*◌, ◌^◌, length, slice_get, take, Some};
 ghost use Rattle.spf_space.specs.Layout.{AreAdjacent-prop, IsLayout, iterations};
 ghost use Rattle.spf_space.specs.Units.{IsUnitOf, loops_units, units_of};
 ghost use Rattle.std.proofs.Props.{props};
@@ -56,6 +56,14 @@ impl Shape {
         extents(self.loops.as_slice())
     }
 
+    /// How many iterations of a step stand before those of this loop. Linear in the loops.
+    pub fn before(&self, loop_no: u32) -> u32
+        requires { loop_no ≤ length self.now.loops }
+        ensures { result ≡ iterations (take loop_no self.now.loops) }
+    {
+        extents(&self.loops.as_slice()[..loop_no as usize])
+    }
+
     /// How many units there are. Linear in the loops.
     #[tactic(auto, using(crate::proofs::Standing::units_length))]
     pub fn units(&self) -> u32
@@ -70,7 +78,7 @@ impl Shape {
         requires { IsUnitOf self.now.steps self.now.loops unit.now }
         ensures { slice_get (units_of self.now.steps self.now.loops) result ≡ Some unit.now }
     {
-        let before = extents(&self.loops.as_slice()[..unit.loop_no as usize]);
+        let before = self.before(unit.loop_no);
         unit.step * self.per_step() + before + unit.position
     }
 

@@ -1,4 +1,5 @@
-use Rattle.spf_space.proofs.Textual.{follows, ordinal_of, stands, stood}
+use Rattle.spf_space.specs.Places.{ordinal_of}
+use Rattle.spf_space.proofs.Textual.{follows, stands, stood}
 use Rattle.spf_space.proofs.unit.ordinals_are_textual_order.Goals as goal
 
 pub returns-clause-units : goal.returns-clause-units

@@ -1,0 +1,2 @@
+pub mod Bijections
+pub mod Markers
