@@ -1,4 +1,5 @@
 mod Allowed
+mod Ascending
 mod Assoc
 mod Carried
 mod Rows

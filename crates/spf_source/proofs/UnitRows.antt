@@ -1,5 +1,5 @@
 -- The units of a loop, of a step and of all steps, and what each of them needs.
-use Rattle.std.proofs.Common.{◌≡◌, ℕ, zero, suc, ◌+◌, ◌-◌, ◌<◌, ◌≤◌, ℤ, pos, ◌+ℤ◌, Bool, true, List, [], ◌∷◌, ◌++◌, All, length, map, drop, slice_get, Option, Some, None, refl, ap, sym, ◌∙◌, subst, arith, inl, inr}
+use Rattle.std.proofs.Common.{◌≡◌, ℕ, zero, suc, ◌+◌, ◌-◌, ◌<◌, ◌≤◌, ℤ, pos, ◌+ℤ◌, Bool, List, [], ◌∷◌, ◌++◌, All, length, map, drop, slice_get, Option, Some, None, refl, ap, sym, ◌∙◌, subst, arith, inl, inr}
 use Rattle.std.specs.List.{flat_map, range_with_len}
 use Rattle.std.proofs.lemmas.Bool.{cases_lt}
 use Rattle.std.proofs.lemmas.List.{drop_all, drop_more, length-map}
@@ -9,23 +9,23 @@ use Rattle.spf_kernel.specs.Bounded.{IsBoundedTree}
 use Rattle.spf_kernel.specs.declared.tree.Item.{Item}
 use Rattle.spf_kernel.specs.declared.tree.Loop.{Loop}
 use Rattle.spf_kernel.specs.declared.tree.Tree.{Tree}
-use Rattle.spf_space.specs.Layout.{cells_in}
 use Rattle.spf_space.specs.Units.{loops_units, units_of}
 use Rattle.spf_space.specs.declared.shape.LoopShape.{LoopShape}
 use Rattle.spf_space.specs.declared.unit.Unit.{Unit}
 use Rattle.spf_space.proofs.Standing.{in_step}
 use Rattle.spf_store.specs.Accepted.{IsAccepted}
+use Rattle.spf_store.specs.Accesses.{accesses_of}
 use Rattle.spf_store.specs.Effect.{effect}
 use Rattle.spf_store.specs.Event.{Event}
 use Rattle.spf_store.specs.FirstFault.{AreInRange, IsInRange}
-use Rattle.spf_store.specs.Shaped.{data_of, loop_shape, loops_of, outer_value, starts_of}
+use Rattle.spf_store.specs.Shaped.{loop_shape, loops_of, outer_value, starts_of}
 use Rattle.spf_store.specs.Source.{items_of, iteration_of, position_iteration, unit_effect, unit_trace, units_effect}
 use Rattle.spf_store.specs.Trace.{items_trace}
 use Rattle.spf_store.proofs.Layouts.{laid_out}
 use Rattle.spf_store.proofs.SmallNumbers.{all_at}
-use Rattle.spf_source.specs.Needs.{Allows}
-use Rattle.spf_source.specs.Ready.{extent_of, loop_units, lower_of}
-use Rattle.spf_source.proofs.Allowed.{event_allowed}
+use Rattle.spf_source.specs.Needs.{Allows, OwnsAll}
+use Rattle.spf_source.specs.Ready.{OwnsCells, extent_of, loop_units, lower_of}
+use Rattle.spf_source.proofs.Allowed.{accesses_owned, events_allowed}
 
 slice_get-past : {A : Type 0} (xs : List A) (n : ℕ) → length xs ≤ n → slice_get xs n ≡ None
 slice_get-past [] n past = refl
@@ -73,18 +73,18 @@ module _ (env : Environment) (tree : Tree) where
     unit_effect_is : (values : ℕ → ℤ) → effect env (starts_of env tree) events values ≡ unit_effect env tree unit values
     unit_effect_is values = ap (λ (of : List Event). effect env (starts_of env tree) of values) (sym trace_is)
 
-    unit_allowed : (owns : ℕ → Bool) → IsAccepted env tree → IsBoundedTree tree → ((e : ℕ) → e < cells_in (data_of env tree) → owns e ≡ true) → IsInRange env tree unit →
+    unit_allowed : (owns : ℕ → Bool) → IsAccepted env tree → IsBoundedTree tree → OwnsAll owns (accesses_of (starts_of env tree) (unit_trace env tree unit)) → IsInRange env tree unit →
         All (Allows (starts_of env tree) owns) events
     unit_allowed owns accepted bounded own range =
         let laid = laid_out env tree accepted bounded bounded.few 0 (omega arith) in
-        subst (All (Allows (starts_of env tree) owns)) trace_is (λ k d inside. event_allowed env tree owns laid.adjacent laid.cells own _ (range k d inside))
+        subst (All (Allows (starts_of env tree) owns)) trace_is (events_allowed env tree owns laid.adjacent laid.cells (unit_trace env tree unit) range own)
 
     module _ {iteration : List ℤ} {items : List Item} (starts : List ℕ) (is_iteration : iteration ≡ (outer_value env each.low +ℤ pos unit.position) ∷ []) (is_items : items ≡ each.items)
         (starts_are : starts ≡ starts_of env tree) where
       events_are : items_trace env iteration 1 items ≡ events
       events_are = λ i. items_trace env (is_iteration i) 1 (is_items i)
 
-      pub may_run : (owns : ℕ → Bool) → IsAccepted env tree → IsBoundedTree tree → ((e : ℕ) → e < cells_in (data_of env tree) → owns e ≡ true) → IsInRange env tree unit →
+      pub may_run : (owns : ℕ → Bool) → IsAccepted env tree → IsBoundedTree tree → OwnsAll owns (accesses_of (starts_of env tree) (unit_trace env tree unit)) → IsInRange env tree unit →
           All (Allows starts owns) (items_trace env iteration 1 items)
       may_run owns accepted bounded own range =
           subst (λ (of : List ℕ). All (Allows of owns) (items_trace env iteration 1 items)) (sym starts_are)
@@ -98,6 +98,13 @@ module _ (env : Environment) (tree : Tree) where
   unit_in_range number position each at inside range =
       all_at (IsInRange env tree) (loops_units 0 0 (loops_of env tree)) _ _ range
       (in_step 0 (loops_of env tree) number (loop_shape env each) position (slice_get-map (loop_shape env) tree.loops number each at) inside)
+
+  -- who owns all cells owns what a unit accesses
+  pub unit_owned : (unit : Unit) (owns : ℕ → Bool) → IsAccepted env tree → IsBoundedTree tree → OwnsCells env tree owns → IsInRange env tree unit →
+      OwnsAll owns (accesses_of (starts_of env tree) (unit_trace env tree unit))
+  unit_owned unit owns accepted bounded own range =
+      let laid = laid_out env tree accepted bounded bounded.few 0 (omega arith) in
+      accesses_owned env tree owns laid.adjacent laid.cells own (unit_trace env tree unit) range
 
   -- ---- rows of units
 

@@ -1,3 +1,8 @@
+pub mod ActionEffect
+pub mod ActionTrace
+pub mod Actions
+pub mod Behavior
+pub mod BehaviorLaw
 pub mod Done
 pub mod Needs
 pub mod Products

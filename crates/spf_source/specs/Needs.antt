@@ -1,8 +1,9 @@
 -- What an iteration needs of the cells that it is run on.
-use Rattle.std.specs.Prelude.{ℕ, ◌≡◌, ◌+◌, ◌<◌, ◌^◌, ℤ, pos, Bool, true, List, length, slice_index_or, ⊤}
+use Rattle.std.specs.Prelude.{ℕ, ◌≡◌, ◌+◌, ◌<◌, ◌^◌, ℤ, pos, Bool, true, All, List, length, slice_index_or, ⊤}
 use Rattle.spf_term.specs.Bounded.{IsBounded, IsWithin}
 use Rattle.spf_term.specs.Environment.{Environment}
 use Rattle.spf_term.specs.Value as term
+use Rattle.spf_touch.specs.declared.class.Class.{Class}
 use Rattle.spf_kernel.specs.declared.tree.Value.{Value, Value', Row_of-Prod, end_of-Prod, more_of-Prod, Row_of-Factor, end_of-Factor, more_of-Factor}
 use Rattle.spf_kernel.specs.declared.tree.Factor.{Factor}
 use Rattle.spf_kernel.specs.declared.tree.Factor.TheVariants as factor_is
@@ -20,6 +21,10 @@ pub record IsPlaced (starts : List ℕ) (array : ℕ) (place : ℤ) : Type 0 whe
 pub record IsOwn (starts : List ℕ) (owns : ℕ → Bool) (array : ℕ) (place : ℤ) : Type 0 where
   pub placed : IsPlaced starts array place
   pub own : owns (element_at (slice_index_or starts array 0) place) ≡ true
+
+-- all that is accessed is the cells' own
+abbrev pub OwnsAll : (ℕ → Bool) → List (ℕ × Class) → Type 0
+OwnsAll owns accesses = All (λ access. owns access.0 ≡ true) accesses
 
 module _ (starts : List ℕ) (owns : ℕ → Bool) where
   -- the event may come: a bound of a `for` is small, and what is accessed is the cells' own

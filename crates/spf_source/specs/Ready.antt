@@ -11,12 +11,15 @@ use Rattle.spf_store.specs.Accepted.{IsAccepted}
 use Rattle.spf_store.specs.Shaped.{data_of, loop_shape, outer_value, starts_of}
 
 module _ (env : Environment) (tree : Tree) where
-  -- the numbers are those of the kernel, and the cells own the elements of its arrays
-  pub record IsReady (starts : List ℕ) (own : ℕ → Bool) : Type 0 where
+  -- the numbers are those of the kernel
+  pub record IsReady (starts : List ℕ) : Type 0 where
     pub accepted : IsAccepted env tree
     pub bounded : IsBoundedTree tree
     pub starts_are : starts ≡ starts_of env tree
-    pub owns : (e : ℕ) → e < cells_in (data_of env tree) → own e ≡ true
+
+  -- the cells own the elements of its arrays
+  abbrev pub OwnsCells : (ℕ → Bool) → Type 0
+  OwnsCells own = (e : ℕ) → e < cells_in (data_of env tree) → own e ≡ true
 
   abbrev pub lower_of : Option Loop → ℤ
   lower_of None = pos 0

@@ -5,16 +5,23 @@
 //! Both take a visitor through the trace of each iteration, which carries out its assignments and refuses nothing: that
 //! every value on the way is allowed, is what they ask of their caller.
 //!
+//! `SourceUnits` are the same units, as spf_touch has them: they keep the frame law, so that they may be run in any legal
+//! order, and run in ascending order they give the source result (`source_behavior`, `ascending_units_are_the_source`).
+//!
 //! It stands on spf_store for traces, effects and the walk, on spf_touch for cells, and on spf_term and spf_base for values.
 //! It takes no memory. A unit is linear in its events and in what its assignments are written with.
 #![tactic(auto)]
 
 mod assigns;
 mod effects;
+mod laws;
 mod loops;
 mod source;
+mod source_units;
 mod unit;
 mod values;
 
+pub use laws::ascending_units_are_the_source;
 pub use source::run_source;
+pub use source_units::SourceUnits;
 pub use unit::run_unit;

@@ -4,10 +4,12 @@ ghost use Rattle.std.specs.Prelude.{◌≡◌, ◌<◌, ◌^◌, ◌+ℤ◌, ◌
 ghost use Rattle.spf_term.specs.Bounded.{IsWithin};
 ghost use Rattle.spf_space.specs.Units.{loops_units, units_of};
 ghost use Rattle.spf_store.specs.FirstFault.{AreInRange, IsInRange};
-ghost use Rattle.spf_store.specs.Shaped.{loops_of};
-ghost use Rattle.spf_store.specs.Source.{unit_effect, units_effect};
+ghost use Rattle.spf_store.specs.Accesses.{accesses_of};
+ghost use Rattle.spf_store.specs.Shaped.{loops_of, starts_of};
+ghost use Rattle.spf_store.specs.Source.{unit_effect, unit_trace, units_effect};
 ghost use Rattle.spf_source.specs.Done.{IsDone};
-ghost use Rattle.spf_source.specs.Ready.{IsReady, extent_of, loop_units, lower_of};
+ghost use Rattle.spf_source.specs.Needs.{OwnsAll};
+ghost use Rattle.spf_source.specs.Ready.{IsReady, OwnsCells, extent_of, loop_units, lower_of};
 
 use crate::effects::{Effects, run_iteration};
 use spf_kernel::tree::{Loop, Tree};
@@ -38,7 +40,8 @@ pub(crate) fn run_at<C: Cells>(
     lower: i64,
     cells: &mut C,
 )
-    requires ready { IsReady effects.now.env.now tree.now effects.now.starts.now (C.own cells.old) }
+    requires ready { IsReady effects.now.env.now tree.now effects.now.starts.now }
+    requires own { OwnsAll (C.own cells.old) (accesses_of (starts_of effects.now.env.now tree.now) (unit_trace effects.now.env.now tree.now unit.now)) }
     requires range { IsInRange effects.now.env.now tree.now unit.now }
     requires there { unit.now.position < extent_of effects.now.env.now tree.now (slice_get tree.now.loops unit.now.loop_no) }
     requires lower { lower ≡ lower_of effects.now.env.now tree.now (slice_get tree.now.loops unit.now.loop_no) }
@@ -52,7 +55,8 @@ pub(crate) fn run_at<C: Cells>(
 
 /// Runs the iterations of a loop.
 fn run_loop<C: Cells>(effects: &Effects, tree: &Tree, loop_no: u32, cells: &mut C)
-    requires ready { IsReady effects.now.env.now tree.now effects.now.starts.now (C.own cells.old) }
+    requires ready { IsReady effects.now.env.now tree.now effects.now.starts.now }
+    requires own { OwnsCells effects.now.env.now tree.now (C.own cells.old) }
     requires range { AreInRange effects.now.env.now tree.now }
     requires there { loop_no < length tree.now.loops }
     ensures { IsDone C.own C.value C.kept (units_effect effects.now.env.now tree.now (loop_units effects.now.env.now tree.now loop_no)) cells.old cells.new }
@@ -74,7 +78,8 @@ fn run_loop<C: Cells>(effects: &Effects, tree: &Tree, loop_no: u32, cells: &mut 
 
 /// Runs the loops once, as they stand.
 fn run_step<C: Cells>(effects: &Effects, tree: &Tree, cells: &mut C)
-    requires ready { IsReady effects.now.env.now tree.now effects.now.starts.now (C.own cells.old) }
+    requires ready { IsReady effects.now.env.now tree.now effects.now.starts.now }
+    requires own { OwnsCells effects.now.env.now tree.now (C.own cells.old) }
     requires range { AreInRange effects.now.env.now tree.now }
     ensures { IsDone C.own C.value C.kept (units_effect effects.now.env.now tree.now (loops_units 0 0 (loops_of effects.now.env.now tree.now))) cells.old cells.new }
 {
@@ -85,7 +90,8 @@ fn run_step<C: Cells>(effects: &Effects, tree: &Tree, cells: &mut C)
 
 /// Runs the loops so many times.
 pub(crate) fn run_steps<C: Cells>(effects: &Effects, tree: &Tree, steps: u32, cells: &mut C)
-    requires ready { IsReady effects.now.env.now tree.now effects.now.starts.now (C.own cells.old) }
+    requires ready { IsReady effects.now.env.now tree.now effects.now.starts.now }
+    requires own { OwnsCells effects.now.env.now tree.now (C.own cells.old) }
     requires range { AreInRange effects.now.env.now tree.now }
     ensures { IsDone C.own C.value C.kept (units_effect effects.now.env.now tree.now (units_of steps (loops_of effects.now.env.now tree.now))) cells.old cells.new }
 {

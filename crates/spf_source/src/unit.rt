@@ -1,13 +1,14 @@
 //! One unit of a kernel.
 
-ghost use Rattle.std.specs.Prelude.{◌≡◌, ℕ, ◌<◌, Some, length, map, slice_get, true};
-ghost use Rattle.spf_space.specs.Layout.{cells_in};
+ghost use Rattle.std.specs.Prelude.{◌≡◌, ℕ, ◌<◌, Some, length, map, slice_get};
 ghost use Rattle.spf_space.specs.Units.{IsUnitOf};
 ghost use Rattle.spf_space.specs.declared.shape.LoopShape.{LoopShape};
 ghost use Rattle.spf_store.specs.Accepted.{IsAccepted};
 ghost use Rattle.spf_store.specs.FirstFault.{IsInRange};
-ghost use Rattle.spf_store.specs.Shaped.{IsShapeOf};
-ghost use Rattle.spf_store.specs.Source.{unit_effect};
+ghost use Rattle.spf_store.specs.Accesses.{accesses_of};
+ghost use Rattle.spf_store.specs.Shaped.{IsShapeOf, starts_of};
+ghost use Rattle.spf_store.specs.Source.{unit_effect, unit_trace};
+ghost use Rattle.spf_source.specs.Needs.{OwnsAll};
 
 use crate::effects::Effects;
 use crate::loops::run_at;
@@ -24,14 +25,14 @@ fn lower_at(loops: &[LoopShape], loop_no: u32) -> i64
     loops[loop_no as usize].lower
 }
 
-/// Runs a unit: an iteration of one loop, on any cells. Linear in its events and in the arrays, of which there are at most
-/// 64; recurses as deep as index expressions and values nest.
+/// Runs a unit: an iteration of one loop, on any cells that own what it accesses. Linear in its events and in the arrays, of
+/// which there are at most 64; recurses as deep as index expressions and values nest.
 pub fn run_unit<C: Cells>(kernel: &Kernel, env: &Env, shape: &Shape, unit: &Unit, cells: &mut C)
     requires accepted { IsAccepted env.now kernel.now }
     requires shape { IsShapeOf env.now kernel.now shape.now }
     requires unit { IsUnitOf shape.now.steps shape.now.loops unit.now }
     requires range { IsInRange env.now kernel.now unit.now }
-    requires own { (e : ℕ) → e < cells_in shape.now.arrays → C.own cells.old e ≡ true }
+    requires own { OwnsAll (C.own cells.old) (accesses_of (starts_of env.now kernel.now) (unit_trace env.now kernel.now unit.now)) }
     ensures own { (e : ℕ) → C.own cells.new e ≡ C.own cells.old e }
     ensures kept { C.kept cells.old cells.new }
     ensures effect { (e : ℕ) → C.value cells.new e ≡ unit_effect env.now kernel.now unit.now (C.value cells.old) e }

@@ -1,7 +1,7 @@
 -- What an iteration touches: the distinct elements of its accesses, in the order of first access.
 use Rattle.std.specs.Prelude.{ℕ, List, [], ◌∷◌, map, slice_index_or}
 use Rattle.spf_term.specs.Environment.{Environment}
-use Rattle.spf_touch.specs.Ops.{noted}
+pub use Rattle.spf_touch.specs.Noted.{noted_all}
 use Rattle.spf_touch.specs.declared.class.Class.{Class}
 use Rattle.spf_touch.specs.declared.touch.Touch.{Touch}
 use Rattle.spf_kernel.specs.declared.tree.Tree.{Tree}
@@ -17,11 +17,6 @@ module _ (starts : List ℕ) where
   accesses_of [] = []
   accesses_of (Access site class array place ∷ events) = (element_at (slice_index_or starts array 0) place, class) ∷ accesses_of events
   accesses_of (_ ∷ events) = accesses_of events
-
--- the touches and these accesses
-abbrev pub noted_all : List Touch → List (ℕ × Class) → List Touch
-noted_all touches [] = touches
-noted_all touches ((element, class) ∷ accesses) = noted_all (noted touches element class) accesses
 
 abbrev pub touches_in : List ℕ → List Event → List Touch
 touches_in starts events = noted_all [] (accesses_of starts events)

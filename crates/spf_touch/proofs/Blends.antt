@@ -45,14 +45,6 @@ blend-neutral Read x h f = cc
 blend-neutral Write x h f = cc
 blend-neutral Add x h f = sym (wrap_only _ _ (itself x f))
 
-pub wrap_fits : (z : ℤ) → FitsSigned w64 (wrap z)
-wrap_fits z = let low = (IsWrap-wrap z).low in let high = (IsWrap-wrap z).high in omega (arith, ints)
-
-pub blend_fits : (c : Class) (x y : ℤ) → FitsSigned w64 x → FitsSigned w64 y → FitsSigned w64 (blend c x y)
-blend_fits Read x y f g = f
-blend_fits Write x y f g = g
-blend_fits Add x y f g = wrap_fits (x +ℤ y)
-
 pub wrap_inner : (x y : ℤ) → wrap (x +ℤ wrap y) ≡ wrap (x +ℤ y)
 wrap_inner x y =
     let whole = IsWrap-wrap (x +ℤ wrap y) in

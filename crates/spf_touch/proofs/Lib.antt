@@ -1,3 +1,5 @@
+pub mod Accessed
+pub mod ActionEffects
 pub mod Blends
 pub mod Classes
 pub mod Lifting
@@ -5,7 +7,7 @@ pub mod Lists
 pub mod Marked
 pub mod Members
 pub mod Noted
-pub mod OpEffects
 pub mod Orders
+mod Performed
 pub mod Rows
 pub mod Swaps

@@ -49,6 +49,9 @@ is_once touches from (end ∷ ends) zero d lists inside =
     (lists.0, omega (arith, more.0, more.1, more.2), lists.1)
 is_once touches from (end ∷ ends) (suc list) d lists inside = is_once touches end ends list d lists.2 (omega arith)
 
+pub length-range : (touches : List Touch) (from end : ℕ) → from ≤ end → end ≤ length touches → length (slice_range touches from end) ≤ length touches
+length-range touches from end low high = omega (arith, length-take-le (end - from) (drop from touches) (omega (arith, length-drop from touches)))
+
 -- the touches of all lists together end where the last list does
 pub together_end : (touches : List Touch) (from : ℕ) (ends : List ℕ) → AreLists touches from ends →
     from + sum_by length (cut touches from ends) ≡ start_of from ends (length ends)

@@ -5,7 +5,7 @@ use Rattle.std.proofs.lemmas.List.{drop-append-le, drop-set-add, get_or-drop, le
 use Rattle.spf_touch.specs.Copy.{together}
 use Rattle.spf_touch.specs.Frame.{IsOnce}
 use Rattle.spf_touch.specs.Lists.{AreMarked, AreNoted, StandsAt, cut, open_list, start_of}
-use Rattle.spf_touch.specs.Ops.{noted}
+use Rattle.spf_touch.specs.Noted.{noted}
 use Rattle.spf_touch.specs.declared.class.Class.{Class}
 use Rattle.spf_touch.specs.declared.touch.Touch.{Touch}
 use Rattle.spf_touch.proofs.Lists.{lists-push, same_cut, same_lists, start-push}

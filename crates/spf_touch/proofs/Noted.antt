@@ -1,13 +1,10 @@
 -- A list of touches and one more access.
-use Rattle.std.proofs.Common.{◌≡◌, ℕ, zero, suc, ◌+◌, ◌*◌, ◌<◌, ◌≤◌, List, [], ◌∷◌, ◌++◌, length, get_or, set, inl, inr, refl, sym, ◌∙◌, ap, arith, eqb}
+use Rattle.std.proofs.Common.{◌≡◌, ℕ, zero, suc, ◌+◌, ◌<◌, ◌≤◌, List, [], ◌∷◌, ◌++◌, length, get_or, set, inl, inr, refl, sym, ◌∙◌, ap, arith, eqb}
 use Rattle.std.proofs.lemmas.Bool.{cases_Bool, eq-eqb, ne_eqb}
 use Rattle.std.proofs.lemmas.List.{get_or_read}
 use Rattle.spf_touch.specs.Copy.{together}
-use Rattle.spf_touch.specs.Ops.{noted, op_noted, touches_from}
+use Rattle.spf_touch.specs.Noted.{noted, noted_all}
 use Rattle.spf_touch.specs.declared.class.Class.{Class}
-use Rattle.spf_touch.specs.declared.class.Class.TheVariants.{Read, Write, Add}
-use Rattle.spf_touch.specs.declared.op.Op.{Op}
-use Rattle.spf_touch.specs.declared.op.Op.TheVariants.{Put, Gain}
 use Rattle.spf_touch.specs.declared.touch.Touch.{Touch}
 
 -- no touch in front of i is of the element
@@ -32,13 +29,9 @@ length_noted (t ∷ ts) e c = elim (cases_Bool (eqb t.element e)) [
   | inr other ↦ rw other (let h = length_noted ts e c in omega arith)
 ]
 
-length_op_noted : (ts : List Touch) (op : Op) → length (op_noted ts op) ≤ length ts + 2
-length_op_noted ts (Put to from plus) = let h = length_noted ts from Read in let k = length_noted (noted ts from Read) to Write in omega arith
-length_op_noted ts (Gain to from) = let h = length_noted ts from Read in let k = length_noted (noted ts from Read) to Add in omega arith
-
-pub length_touches : (ops : List Op) (ts : List Touch) → length (touches_from ts ops) ≤ length ts + 2 * length ops
-length_touches [] ts = omega arith
-length_touches (op ∷ ops) ts = let h = length_touches ops (op_noted ts op) in let k = length_op_noted ts op in omega arith
+pub length_all : (ts : List Touch) (accesses : List (ℕ × Class)) → length (noted_all ts accesses) ≤ length ts + length accesses
+length_all ts [] = omega arith
+length_all ts ((e, c) ∷ accesses) = let h = length_noted ts e c in let k = length_all (noted ts e c) accesses in omega arith
 
 -- what the code writes at a touch that it found
 pub noted_hit : (now ts : List Touch) (i e : ℕ) (c j : Class) (x y : Touch) → now ≡ ts → NotBefore ts i e → i < length ts →

@@ -6,7 +6,7 @@ use Rattle.spf_touch.specs.Blend.{blend, is_reduction}
 use Rattle.spf_touch.specs.Conflict.{Conflict, is_shared}
 use Rattle.spf_touch.specs.Copy.{class_of, copy_at}
 use Rattle.spf_touch.specs.Frame.{Behavior, FrameLaw, SeenAlike, after_unit, after_units, blend_at, class_at, is_seen}
-use Rattle.spf_touch.specs.OpLaw.{copy_from_seen}
+use Rattle.spf_touch.specs.ActionLaw.{copy_from_seen}
 use Rattle.spf_touch.specs.Ordered.{is_in}
 use Rattle.spf_touch.proofs.Blends.{blend_assoc, blend_comm}
 use Rattle.spf_touch.proofs.Classes.{is_free, free_from, free_keeps, free_of_all, shared_same}

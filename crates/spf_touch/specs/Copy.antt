@@ -31,3 +31,7 @@ copy_at (Some c) value = Some (if is_reduction c then neutral c else value)
 abbrev pub value_or_0 : Option ℤ → ℤ
 value_or_0 None = pos 0
 value_or_0 (Some value) = value
+
+-- the copy of what is touched
+abbrev pub copied : List Touch → (ℕ → ℤ) → ℕ → ℤ
+copied touches values e = value_or_0 (copy_at (class_at touches e) (values e))

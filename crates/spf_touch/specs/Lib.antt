@@ -1,8 +1,11 @@
+pub mod ActionLaw
+pub mod Actions
 pub mod Blend
 pub mod Conflict
 pub mod Copy
 pub mod Frame
 pub mod Lists
-pub mod OpLaw
+pub mod Noted
 pub mod Ops
 pub mod Ordered
+pub mod Repeated

@@ -2,7 +2,7 @@
 //!
 //! It stands on the wrapping arithmetic of spf_base. Upward it gives two contracts: `conflict` is true exactly where two
 //! touch lists clash at some element (`Conflict`), and whatever implements `Units` keeps the frame law (`FrameLaw`), so
-//! that units may be reordered and run on copies. `conflict` costs the product of the two lengths, a run what its unit
+//! that units may be reordered and run on copies. Units of straight-line actions (`Actions`) keep it by one proof. `conflict` costs the product of the two lengths, a run what its unit
 //! costs, and the other calls are constant but for `OpUnits::of`.
 #![tactic(auto)]
 
@@ -23,7 +23,7 @@ pub use blend::blend_laws;
 pub use cells::Cells;
 pub use class::Class;
 pub use conflicts::conflict;
-pub use laws::{any_legal_order, work_on_a_copy};
+pub use laws::{actions_keep_the_frame_law, any_legal_order, work_on_a_copy};
 pub use op::Op;
 pub use op_units::OpUnits;
 pub use touch::Touch;

@@ -1,7 +1,8 @@
 //! Units that are lists of operations.
 
 ghost use Rattle.std.specs.Prelude.{◌≡◌, ◌<◌, ◌^◌, ℕ, All, IfOk, OnOk, length, map, vec_items, vec_len, true};
-ghost use Rattle.spf_touch.specs.Ops.{noted, ops_of, touches_of};
+ghost use Rattle.spf_touch.specs.Noted.{noted};
+ghost use Rattle.spf_touch.specs.Ops.{op_touches, ops_of};
 
 use crate::cells::Cells;
 use crate::class::Class;
@@ -56,7 +57,7 @@ impl OpUnits {
 
     fn touches_at(&self, unit: u32) -> &[Touch]
         requires { unit < length self.now }
-        ensures touches { result.now ≡ touches_of (ops_of self.now unit) }
+        ensures touches { result.now ≡ op_touches (ops_of self.now unit) }
         ensures short { length result.now < 2 ^ 32 }
     {
         self.touches[unit as usize].as_slice()
@@ -64,13 +65,15 @@ impl OpUnits {
 }
 
 impl Units for OpUnits {
+    ghost use Rattle.std.specs.Prelude.{length};
     ghost use Rattle.spf_touch.specs.Ops.{op_behavior};
 
     ghost behavior = { op_behavior };
 
-    ghost use Rattle.spf_touch.specs.OpLaw.{op_law};
+    ghost use Rattle.spf_touch.specs.ActionLaw.{action_law};
+    ghost use Rattle.spf_touch.specs.Ops.{actions_of, ops_of};
 
-    ghost framed = { op_law };
+    ghost framed = { λ units. action_law (λ u. actions_of (ops_of units u)) (length units) };
 
     fn count(&self) -> u32 {
         self.units.len() as u32
@@ -90,7 +93,7 @@ impl Units for OpUnits {
 }
 
 fn touches_of_all(alloc: Global, ops: &[Op]) -> Result<Vec<Touch>, NoMemory>
-    ensures { IfOk result (λ touches. touches.items ≡ touches_of ops.now) }
+    ensures { IfOk result (λ touches. touches.items ≡ op_touches ops.now) }
 {
     let mut touches = Vec::new(alloc);
     for op in ops {

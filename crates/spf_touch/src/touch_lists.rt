@@ -4,7 +4,7 @@ ghost use Rattle.std.specs.Prelude.{◌≡◌, ◌+◌, ◌-◌, ◌<◌, ◌≤
 ghost use Rattle.std.specs.List.{sum_by};
 ghost use Rattle.spf_touch.specs.Frame.{IsOnce};
 ghost use Rattle.spf_touch.specs.Lists.{AreMarked, StandsAt};
-ghost use Rattle.spf_touch.specs.Ops.{noted};
+ghost use Rattle.spf_touch.specs.Noted.{noted};
 
 use crate::class::Class;
 use crate::conflicts::join;

@@ -1,6 +1,6 @@
 //! The touched elements of each iteration.
 
-ghost use Rattle.std.specs.Prelude.{◌≡◌, ◌<◌, ◌≤◌, length, slice_get, Some};
+ghost use Rattle.std.specs.Prelude.{◌≡◌, ◌<◌, ◌≤◌, ◌^◌, length, slice_get, Some};
 ghost use Rattle.std.specs.List.{slice_range};
 ghost use Rattle.spf_touch.specs.Frame.{IsOnce};
 ghost use Rattle.spf_touch.specs.Lists.{AreCut, AreLists, cut, start_of};
@@ -53,6 +53,7 @@ fn list_at<'a>(touches: &'a [Touch], ends: &[u32], list: usize) -> &'a [Touch]
     requires there { list < length ends.now }
     ensures list { slice_get (cut touches.now 0 ends.now) list ≡ Some result.now }
     ensures once { IsOnce result.now }
+    ensures short { length result.now ≤ length touches.now }
 {
     part(touches, start_of(ends, list), ends[list] as usize)
 }
@@ -77,6 +78,7 @@ impl Touches {
         requires { local < length self.now }
         ensures list { slice_get self.now local ≡ Some result.now }
         ensures once { IsOnce result.now }
+        ensures short { length result.now < 2 ^ 32 }
     {
         list_at(
             self.touches.as_slice(),

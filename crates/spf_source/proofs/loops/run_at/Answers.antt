@@ -12,7 +12,7 @@ run_iteration-requires-clause-allows g c =
     let lower = to_z-of_z w64 c.args.lower (search rules) ∙ c.requires.lower ∙ ap (lower_of env tree) at in
     let iteration = c.iteration_at-iteration.ensures ∙ ap (λ (z : ℤ). (z +ℤ pos c.args.unit.now.position) ∷ []) lower in
     may_run env tree c.args.unit.now c.loop_at-each.result.now at c.args.effects.now.starts.now iteration c.as_slice.ensures c.requires.ready.starts_are
-    (g.C.Cells.own c.args.cells.now) c.requires.ready.accepted c.requires.ready.bounded c.requires.ready.owns c.requires.range
+    (g.C.Cells.own c.args.cells.now) c.requires.ready.accepted c.requires.ready.bounded c.requires.own c.requires.range
 
 pub returns : goal.returns
 returns g c =

@@ -4,7 +4,7 @@ use Rattle.std.specs.Int.{int_gap}
 use Rattle.spf_store.specs.Shaped.{loop_shape}
 use Rattle.spf_store.specs.Source.{unit_effect}
 use Rattle.spf_source.specs.Ready.{extent_of}
-use Rattle.spf_source.proofs.UnitRows.{last_position, next_position, positions_left, unit_at, unit_in_range}
+use Rattle.spf_source.proofs.UnitRows.{last_position, next_position, positions_left, unit_at, unit_in_range, unit_owned}
 use Rattle.spf_source.proofs.Way.{arrived, went_on}
 use Rattle.spf_source.proofs.loops.run_loop.Goals as goal
 
@@ -15,6 +15,16 @@ run_at-requires-clause-range g c =
     let high = to_z-of_z w64 c.outer_value-high.result (search rules) ∙ c.outer_value-high.ensures in
     let extent : c.extent-position-end.result ≡ (loop_shape env c.loop_at-each.result.now).extent = c.extent-position-end.ensures ∙ (λ i. int_gap (low i) (high i)) in
     unit_in_range env c.args.tree.now c.args.loop_no c.loop-position.position c.loop_at-each.result.now c.loop_at-each.ensures (omega (arith, c.loop-position-test.true, extent)) c.requires.range
+
+pub run_at-requires-clause-own : goal.run_at-requires-clause-own
+run_at-requires-clause-own g c =
+    let env = c.args.effects.now.env.now in
+    let tree = c.args.tree.now in
+    let low = to_z-of_z w64 c.outer_value-low.result (search rules) ∙ c.outer_value-low.ensures in
+    let high = to_z-of_z w64 c.outer_value-high.result (search rules) ∙ c.outer_value-high.ensures in
+    let extent : c.extent-position-end.result ≡ (loop_shape env c.loop_at-each.result.now).extent = c.extent-position-end.ensures ∙ (λ i. int_gap (low i) (high i)) in
+    let range = unit_in_range env tree c.args.loop_no c.loop-position.position c.loop_at-each.result.now c.loop_at-each.ensures (omega (arith, c.loop-position-test.true, extent)) c.requires.range in
+    unit_owned env tree _ (g.C.Cells.own c.loop-position.cells) c.requires.ready.accepted c.requires.ready.bounded (λ e below. c.loop-position.invariant.owns e ∙ c.requires.own e below) range
 
 pub loop-position-preserved : goal.loop-position-preserved
 loop-position-preserved g c =

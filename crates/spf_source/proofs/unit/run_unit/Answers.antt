@@ -2,9 +2,12 @@ use Rattle.std.proofs.Common.{◌≡◌, ◌<◌, ℤ, List, length, map, take, 
 use Rattle.std.proofs.lemmas.Int.{to_z-of_z}
 use Rattle.std.proofs.lemmas.Option.{slice_get_within}
 use Rattle.spf_kernel.specs.declared.tree.Tree.{Tree}
-use Rattle.spf_space.specs.Layout.{cells_in}
 use Rattle.spf_space.specs.declared.shape.ArrayShape.{ArrayShape}
 use Rattle.spf_space.specs.declared.shape.LoopShape.{LoopShape}
+use Rattle.spf_store.specs.Accesses.{accesses_of}
+use Rattle.spf_store.specs.Shaped.{starts_of}
+use Rattle.spf_store.specs.Source.{unit_trace}
+use Rattle.spf_source.specs.Needs.{OwnsAll}
 use Rattle.spf_source.specs.Ready.{IsReady, extent_of, lower_of}
 use Rattle.spf_source.proofs.Starts.{few_arrays, table_is}
 use Rattle.spf_source.proofs.UnitRows.{of_shape, slice_get-map}
@@ -28,12 +31,16 @@ run_at-requires-clause-ready g c =
     let tree = c.args.kernel.now in
     let table = take c.len.result c.starts_of-starts.result in
     let count = c.len.ensures ∙ sym (ap (length {A = ArrayShape}) c.as_slice.ensures) in
-    subst (λ (of : Tree). IsReady env of table (g.C.Cells.own c.args.cells.now)) (sym c.tree-tree.ensures.tree) (record {
+    subst (λ (of : Tree). IsReady env of table) (sym c.tree-tree.ensures.tree) (record {
       accepted = c.requires.accepted;
       bounded = rw c.tree-tree.ensures.tree at c.tree-tree.ensures.bounded;
       starts_are = table_is env tree c.as_slice.result.now c.starts_of-starts.result c.len.result (c.as_slice.ensures ∙ c.requires.shape.arrays) count c.starts_of-starts.ensures;
-      owns = λ e below. c.requires.own e (omega (arith, below, ap cells_in c.requires.shape.arrays));
     })
+
+pub run_at-requires-clause-own : goal.run_at-requires-clause-own
+run_at-requires-clause-own g c =
+    let env = c.args.env.now in
+    subst (λ (of : Tree). OwnsAll (g.C.Cells.own c.args.cells.now) (accesses_of (starts_of env of) (unit_trace env of c.args.unit.now))) (sym c.tree-tree.ensures.tree) c.requires.own
 
 pub run_at-requires-clause-there : goal.run_at-requires-clause-there
 run_at-requires-clause-there g c =

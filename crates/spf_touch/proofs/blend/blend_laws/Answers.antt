@@ -1,4 +1,5 @@
-use Rattle.spf_touch.proofs.Blends.{blend_assoc, blend_comm, blend-neutral, blend_fits}
+use Rattle.spf_touch.specs.ActionLaw.{blend_fits}
+use Rattle.spf_touch.proofs.Blends.{blend_assoc, blend_comm, blend-neutral}
 use Rattle.spf_touch.proofs.blend.blend_laws.Goals as goal
 
 pub returns-clause-associative : goal.returns-clause-associative

@@ -1,5 +1,5 @@
 use Rattle.std.proofs.Common.{◌∙◌, arith}
-use Rattle.spf_touch.proofs.OpEffects.{perform_more}
+use Rattle.spf_touch.proofs.Performed.{perform_more}
 use Rattle.spf_touch.proofs.perform.perform_all.Goals as goal
 
 pub loop-op-preserved : goal.loop-op-preserved

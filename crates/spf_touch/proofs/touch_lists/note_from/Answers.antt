@@ -2,7 +2,7 @@ use Rattle.std.proofs.Common.{◌≡◌, arith, drop, length, subst, sym, ◌∙
 use Rattle.std.proofs.lemmas.List.{get_or_default}
 use Rattle.spf_touch.specs.Frame.{IsOnce}
 use Rattle.spf_touch.specs.Lists.{StandsAt}
-use Rattle.spf_touch.specs.OpLaw.{once_noted}
+use Rattle.spf_touch.specs.ActionLaw.{once_noted}
 use Rattle.spf_touch.proofs.Marked.{marked_behind, marked_there, noted_behind, noted_there}
 use Rattle.spf_touch.proofs.touch_lists.note_from.Goals as goal
 
