@@ -1,5 +1,5 @@
 -- The steps of a script that stands in a text have names that aren't quoted and numbers that aren't too large.
-use Rattle.std.proofs.Common.{◌≡◌, ◌⊎◌, List, [], ◌∷◌, map, refl, sym, subst, inl, inr}
+use Rattle.std.proofs.Common.{List, [], ◌∷◌, map, refl, sym, subst, inl, inr}
 use Rattle.std.specs.List.{AllByRecursion}
 use Rattle.spf_lex.specs.BundleWords.{same_kind, bundle_words}
 use Rattle.spf_lex.specs.Derivation.{Derivation}
@@ -9,14 +9,13 @@ use Rattle.spf_lex.specs.declared.kind.Kind.{Kind}
 use Rattle.spf_lex.specs.declared.kind.Kind.TheVariants as kind
 use Rattle.spf_lex.proofs.Leaves.{Leaves}
 use Rattle.spf_lex.proofs.NamedTokens.{IsFit, token_fits}
-use Rattle.spf_lex.proofs.PrintedTexts.{IsStanding, printed_stands}
+use Rattle.spf_lex.proofs.PrintedTexts.{printed_stands}
 use Rattle.spf_lex.proofs.Spans.{each_text}
 use Rattle.spf_lex.proofs.StandingLeaves.{standing_leaves}
 use Rattle.spf_lex.specs.Joined.{joined}
 use Rattle.spf_script.specs.Parsed.{IsParsed, IsTextOf}
 use Rattle.spf_script.specs.Printed.{words_of}
 use Rattle.spf_script.specs.Productions.{Syntax, name, number, names, cpack, order, bucket, seed, tile, tilepack, step, script}
-use Rattle.spf_script.specs.declared.step.TextSeed.{TextSeed}
 use Rattle.spf_script.specs.declared.step.TextStep.{TextStep}
 use Rattle.spf_script.specs.declared.step.TextStep.TheVariants.{LexGroup, LexSort}
 use Rattle.spf_script.proofs.Reprinted.{IsFree, IsSmall, AreFree, SeedFits, StepFits, script_printed}

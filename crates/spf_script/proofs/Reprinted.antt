@@ -1,16 +1,15 @@
 -- The words of a script whose names and numbers are fit are read as that script.
-use Rattle.std.proofs.Common.{◌≡◌, ℕ, ◌+◌, ◌≤◌, ◌^◌, ◌==◌, Bool, true, false, List, [], ◌∷◌, ◌++◌, length, None, decimal, refl}
-use Rattle.std.specs.Prelude.{⊤, codes, if◌then◌else◌, flat_map}
+use Rattle.std.proofs.Common.{◌≡◌, ℕ, ◌+◌, ◌≤◌, ◌^◌, ◌==◌, Bool, true, false, List, [], ◌∷◌, length, None, decimal, refl}
+use Rattle.std.specs.Prelude.{⊤, codes, if◌then◌else◌}
 use Rattle.std.specs.List.{AllByRecursion}
 use Rattle.spf_base.specs.Word.{IsName}
 use Rattle.spf_lex.specs.BundleWords.{bundle_words, quoted_texts}
 use Rattle.spf_lex.specs.Joined.{listed}
 use Rattle.spf_lex.specs.Language.{lookup, lexed}
-use Rattle.spf_lex.specs.Production.{Production}
 use Rattle.spf_lex.specs.declared.kind.Kind.{Kind}
 use Rattle.spf_lex.specs.declared.kind.Kind.TheVariants as kind
 use Rattle.spf_lex.proofs.FixedWords.{IsFixed, small_fixed, symbol_fixed, name_fixed, number_fixed, number_value}
-use Rattle.spf_lex.proofs.PrintedWords.{IsPrinted, ArePrinted, IsText, word_alone, behind_word, behind_part, on_left, on_right, enclosed, many_printed, separated_printed}
+use Rattle.spf_lex.proofs.PrintedWords.{IsPrinted, ArePrinted, word_alone, behind_word, behind_part, on_left, on_right, enclosed, many_printed, separated_printed}
 use Rattle.spf_script.specs.Printed.{seed_words, order_words, step_words, words_of}
 use Rattle.spf_script.specs.Productions.{Syntax, name, number, names, cpack, order, bucket, seed, tile, tilepack, step, script}
 use Rattle.spf_script.specs.declared.step.TextSeed.{TextSeed}

@@ -1,0 +1,107 @@
+-- The numbers of a step that breaks no rule are such as the shape and the partitioners have.
+use Rattle.std.proofs.Common.{◌≡◌, ℕ, zero, suc, ◌+◌, ◌<◌, ◌≤◌, Bool, true, false, not, ◌&&◌, List, [], ◌∷◌, length, map, take, get_or, slice_get, None, Some, All, arith, refl, subst}
+use Rattle.std.specs.List.{AllByRecursion, list_all, list_any, position_from}
+use Rattle.std.proofs.lemmas.Bool.Decides.{nat_tests}
+use Rattle.std.proofs.lemmas.Option.{slice_get-get_or}
+use Rattle.spf_space.specs.declared.shape.ArrayShape.{ArrayShape}
+use Rattle.spf_space.specs.declared.shape.LoopShape.{LoopShape}
+use Rattle.spf_space.specs.declared.shape.Shape.{Shape}
+use Rattle.std.specs.Str.{bytes_eq}
+use Rattle.spf_script.specs.Resolved.{IsSeedFor, IsStepFor, IsWellFormed, array_number, loop_number, most_parts, parts_in, resolved, resolved_seed}
+use Rattle.spf_script.specs.Rules.{broken_rules, is_array, is_behind_tile, is_empty, is_foreign, is_late, is_loop, is_misnamed, is_tile, least_rule}
+use Rattle.spf_script.specs.declared.step.TextSeed.{TextSeed}
+use Rattle.spf_script.specs.declared.step.TextSeed.TheVariants.{Block, Spread, Plug}
+use Rattle.spf_script.specs.declared.step.TextStep.{TextStep}
+use Rattle.spf_script.specs.declared.step.TextStep.TheVariants.{Cpack, LexGroup, LexSort, Bucket, Tile, TilePack}
+use Rattle.spf_script.proofs.Places.{left_true, place_within, places_within}
+
+-- where none is found, none is true
+each_false : (rule : ℕ) (broken : List Bool) → position_from (λ one. one) rule broken ≡ None → AllByRecursion (λ one. one ≡ false) broken
+each_false rule [] none = tt
+each_false rule (true ∷ broken) none = cc
+each_false rule (false ∷ broken) none = (refl, each_false (rule + 1) broken none)
+
+both_true : (a b : Bool) → not (a && b) ≡ false → (a ≡ true) × (b ≡ true)
+both_true true true e = (refl, refl)
+both_true true false e = cc
+both_true false b e = cc
+
+-- the first tile is the one that has no tile before it
+parts_at : (script : List TextStep) (place : ℕ) (of : List ℕ) (at : ℕ) (seed : TextSeed) (parts : ℕ) → list_any is_tile (take place script) ≡ false
+    → slice_get script place ≡ Some (Tile of at seed parts) → parts_in script ≡ parts
+parts_at [] place of at seed parts none there = cc
+parts_at (Tile of' at' seed' parts' ∷ script) zero of at seed parts none there = cc
+parts_at (Cpack arrays by ∷ script) zero of at seed parts none there = cc
+parts_at (LexGroup from by ∷ script) zero of at seed parts none there = cc
+parts_at (LexSort from by ∷ script) zero of at seed parts none there = cc
+parts_at (Bucket from by size ∷ script) zero of at seed parts none there = cc
+parts_at (TilePack arrays ∷ script) zero of at seed parts none there = cc
+parts_at (Tile of' at' seed' parts' ∷ script) (suc place) of at seed parts none there = cc
+parts_at (Cpack arrays by ∷ script) (suc place) of at seed parts none there = parts_at script place of at seed parts none there
+parts_at (LexGroup from by ∷ script) (suc place) of at seed parts none there = parts_at script place of at seed parts none there
+parts_at (LexSort from by ∷ script) (suc place) of at seed parts none there = parts_at script place of at seed parts none there
+parts_at (Bucket from by size ∷ script) (suc place) of at seed parts none there = parts_at script place of at seed parts none there
+parts_at (TilePack arrays ∷ script) (suc place) of at seed parts none there = parts_at script place of at seed parts none there
+
+-- what the rules say of a step that breaks none
+record Keeps (shape : Shape) (plugs : ℕ) (script : List TextStep) (place : ℕ) (step : TextStep) : Type 0 where
+  named : is_misnamed shape step ≡ false
+  filled : is_empty step ≡ false
+  timely : is_late shape step ≡ false
+  first : is_behind_tile script place step ≡ false
+  handed : is_foreign plugs step ≡ false
+
+keeps : (shape : Shape) (plugs : ℕ) (script : List TextStep) (place : ℕ) (step : TextStep) → slice_get script place ≡ Some step
+    → least_rule shape plugs script place ≡ None → Keeps shape plugs script place step
+keeps shape plugs script place step there none =
+    let each = each_false 1 (broken_rules shape plugs script place step) (rw there at none) in
+    record { named = each.1.0; filled = each.1.1.1.1.0; timely = each.1.1.1.1.1.0; first = each.1.1.1.1.1.1.0; handed = each.1.1.1.1.1.1.1.1.0 }
+
+loop_within : (loops : List LoopShape) (name : List ℕ) → list_all (is_loop loops) (name ∷ []) ≡ true → loop_number loops name < length loops
+loop_within loops name all = place_within (λ (each : LoopShape). bytes_eq each.name name) loops (left_true _ true all)
+
+array_within : (arrays : List ArrayShape) (name : List ℕ) → list_all (is_array arrays) (name ∷ []) ≡ true → array_number arrays name < length arrays
+array_within arrays name all = place_within (λ (array : ArrayShape). bytes_eq array.name name) arrays (left_true _ true all)
+
+arrays_within : (arrays : List ArrayShape) (names : List (List ℕ)) → list_all (is_array arrays) names ≡ true → All (λ number. number < length arrays) (map (array_number arrays) names)
+arrays_within arrays names all = places_within (λ (name : List ℕ) (array : ArrayShape). bytes_eq array.name name) arrays names all
+
+seed_fits : (plugs : ℕ) (of : List ℕ) (at : ℕ) (seed : TextSeed) (parts : ℕ) → is_foreign plugs (Tile of at seed parts) ≡ false → IsSeedFor plugs (resolved_seed seed)
+seed_fits plugs of at Block parts handed = tt
+seed_fits plugs of at Spread parts handed = tt
+seed_fits plugs of at (Plug number) parts handed = grind (arith, nat_tests)
+
+fits_at : (shape : Shape) (plugs : ℕ) (script : List TextStep) (place : ℕ) (step : TextStep) → slice_get script place ≡ Some step → parts_in script ≤ most_parts
+    → Keeps shape plugs script place step → IsStepFor shape plugs (resolved shape step)
+fits_at shape plugs script place (Cpack arrays by) there few kept =
+    let named = both_true (list_all (is_loop shape.loops) (by ∷ [])) (list_all (is_array shape.arrays) arrays) kept.named in
+    (arrays_within shape.arrays arrays named.1, loop_within shape.loops by named.0)
+fits_at shape plugs script place (LexGroup of by) there few kept =
+    let named = both_true (list_all (is_loop shape.loops) (of ∷ [])) (list_all (is_array shape.arrays) (by ∷ [])) kept.named in
+    (loop_within shape.loops of named.0, array_within shape.arrays by named.1)
+fits_at shape plugs script place (LexSort of by) there few kept =
+    let named = both_true (list_all (is_loop shape.loops) (of ∷ [])) (list_all (is_array shape.arrays) (by ∷ [])) kept.named in
+    (loop_within shape.loops of named.0, array_within shape.arrays by named.1)
+fits_at shape plugs script place (Bucket of by size) there few kept =
+    let named = both_true (list_all (is_loop shape.loops) (of ∷ [])) (list_all (is_array shape.arrays) (by ∷ [])) kept.named in
+    let filled = kept.filled in
+    let some : 1 ≤ size = grind (arith, nat_tests) in
+    (loop_within shape.loops of named.0, array_within shape.arrays by named.1, some)
+fits_at shape plugs script place (Tile of at seed parts) there few kept =
+    let named = both_true (list_all (is_loop shape.loops) (of ∷ [])) true kept.named in
+    let filled = kept.filled in
+    let timely = kept.timely in
+    let same = parts_at script place of at seed parts kept.first there in
+    let early : at < shape.steps = grind (arith, nat_tests) in
+    let some : 1 ≤ parts = grind (arith, nat_tests) in
+    (loop_within shape.loops of named.0, early, seed_fits plugs of at seed parts kept.handed, some, subst (λ (n : ℕ). n ≤ most_parts) same few)
+fits_at shape plugs script place (TilePack arrays) there few kept =
+    let named = both_true true (list_all (is_array shape.arrays) arrays) kept.named in
+    arrays_within shape.arrays arrays named.1
+
+-- each step of a script that breaks no rule, with no more parts than there may be
+pub steps_fit : (shape : Shape) (plugs : ℕ) (script : List TextStep) → IsWellFormed shape plugs script → parts_in script ≤ most_parts
+    → All (λ (step : TextStep). IsStepFor shape plugs (resolved shape step)) script
+steps_fit shape plugs script well few = λ place other within.
+    let there = slice_get-get_or script place other within in
+    fits_at shape plugs script place (get_or script place other) there few (keeps shape plugs script place (get_or script place other) there (well place))
