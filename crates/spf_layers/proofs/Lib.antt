@@ -1,0 +1,9 @@
+pub mod Behind
+pub mod Chaining
+pub mod Exact
+pub mod Flat
+pub mod Layered
+pub mod Laying
+pub mod Located
+pub mod Members
+pub mod Parts

@@ -1,0 +1,5 @@
+pub mod Chains
+pub mod Fits
+pub mod Flat
+pub mod Groups
+pub mod Legality
