@@ -1,0 +1,125 @@
+-- Steps have one answer.
+use Rattle.std.proofs.Common.{◌≡◌, ◌⊎◌, ℕ, ◌+◌, inl, inr, List, [], ◌∷◌, Result, Ok, Err, Some, slice_set, slice_get, arith, refl, sym, ap, ◌∙◌, subst}
+use Rattle.std.specs.Prelude.{⊤}
+use Rattle.spf_perm.specs.Perm.{IsPerm}
+use Rattle.spf_touch.specs.declared.touch.Touch.{Touch}
+use Rattle.spf_space.specs.Places.{order_of}
+use Rattle.spf_space.specs.Units.{units_of}
+use Rattle.spf_space.specs.declared.shape.Shape.{Shape}
+use Rattle.spf_space.specs.declared.unit.Unit.{Unit}
+use Rattle.spf_script.specs.declared.resolved.Step.{Step}
+use Rattle.spf_script.specs.declared.resolved.Step.TheVariants.{Cpack, LexGroup, LexSort, Bucket, Tile, TilePack}
+use Rattle.spf_layers.specs.Legality.{IsFirstPair}
+use Rattle.spf_group.specs.Keys.{bucket_key, group_key, sort_key}
+use Rattle.spf_group.specs.Ordered.{IsOrderedBy}
+use Rattle.spf_plan.specs.Planned.{AreLegal, Planned, reordered, source_plan}
+use Rattle.spf_plan.specs.Taken.{AreFirstReversed, IsPlanAnswer, Reorders, Takes, TakesAll, TakesLater, TakesOrder, packed_places}
+use Rattle.spf_plan.specs.declared.plan_fault.PlanFault.{PlanFault}
+use Rattle.spf_plan.specs.declared.plan_fault.PlanFault.TheVariants.{Illegal, Later, Memory}
+
+-- that there is one stable order by keys
+abbrev pub OneOrder : Type 0
+OneOrder = (key : ℕ → List ℕ) (old a b : List ℕ) → IsPerm a → IsPerm b → IsOrderedBy key old a → IsOrderedBy key old b → a ≡ b
+
+-- two answers are one, but for out of memory
+abbrev Agree : {A : Type 0} → Result A PlanFault → Result A PlanFault → Type 0 → Type 0
+Agree a b same = (a ≡ Err Memory) ⊎ ((b ≡ Err Memory) ⊎ same)
+
+-- a relation has one first pair
+pair_once : (R : ℕ → ℕ → Type 0) (p q a b : ℕ) → IsFirstPair R p q → IsFirstPair R a b → (p ≡ a) × (q ≡ b)
+pair_once R p q a b x y =
+    let later : q ≡ b = omega (arith, x.least a b y.there, y.least p q x.there) in
+    let here : R a q = subst (R a) (sym later) y.there in
+    let there : R p b = subst (R p) later x.there in
+    (omega (arith, x.greatest a here, y.greatest p there), later)
+
+value_once : {A : Type 0} (xs : List A) (m n : ℕ) (a b : A) → m ≡ n → slice_get xs m ≡ Some a → slice_get xs n ≡ Some b → a ≡ b
+value_once xs m n a b same first second = let e : Some a ≡ Some b = sym first ∙ (ap (slice_get xs) same ∙ second) in cc
+
+module _ (touches : List (List Touch)) (shape : Shape) where
+  one_pair : (tiles : List ℕ) (orders : List (List ℕ)) (p q u v : Unit) → AreFirstReversed touches shape tiles orders p q → AreFirstReversed touches shape tiles orders u v
+      → (p ≡ u) × (q ≡ v)
+  one_pair tiles orders p q u v a b =
+      let same = pair_once _ a.earlier a.later b.earlier b.later a.first b.first in
+      let units = units_of shape.steps shape.loops in
+      (value_once units a.earlier b.earlier p u same.0 a.earlier_is b.earlier_is, value_once units a.later b.later q v same.1 a.later_is b.later_is)
+
+  legal_or_not : (tiles : List ℕ) (orders : List (List ℕ)) (p q : Unit) → AreLegal touches shape tiles orders → AreFirstReversed touches shape tiles orders p q → ⊥
+  legal_or_not tiles orders p q legal found =
+      let pair = found.first.there in
+      pair.reversed (legal found.earlier found.later pair.ascend pair.inside pair.conflict)
+
+  moved_legal : (of : ℕ) (order : List ℕ) (plan a : Planned) (p q : Unit) → a ≡ reordered of order plan → AreLegal touches shape a.tiles a.orders
+      → AreFirstReversed touches shape plan.tiles (slice_set plan.orders of order) p q → ⊥
+  moved_legal of order plan a p q is legal found =
+      legal_or_not plan.tiles (slice_set plan.orders of order) p q (subst (λ (b : Planned). AreLegal touches shape b.tiles b.orders) is legal) found
+
+  one_reorder : (number of : ℕ) (order : List ℕ) (plan : Planned) (r s : Result ⊤ PlanFault) (a b : Planned)
+      → Reorders touches shape number of order plan r a → Reorders touches shape number of order plan s b → Agree r s ((r ≡ s) × (a ≡ b))
+  one_reorder number of order plan (Err Memory) s a b x y = inl refl
+  one_reorder number of order plan (Ok tt') (Err Memory) a b x y = inr (inl refl)
+  one_reorder number of order plan (Err (Illegal n p q)) (Err Memory) a b x y = inr (inl refl)
+  one_reorder number of order plan (Err (Later n)) s a b x y = absurd x
+  one_reorder number of order plan (Ok d) (Err (Later n)) a b x y = absurd y
+  one_reorder number of order plan (Err (Illegal m p q)) (Err (Later n)) a b x y = absurd y
+  one_reorder number of order plan (Ok d) (Ok e) a b x y = inr (inr (refl, x.0 ∙ sym y.0))
+  one_reorder number of order plan (Ok d) (Err (Illegal n p q)) a b x y = absurd (moved_legal of order plan a p q x.0 x.1 y.2)
+  one_reorder number of order plan (Err (Illegal n p q)) (Ok d) a b x y = absurd (moved_legal of order plan b p q y.0 y.1 x.2)
+  one_reorder number of order plan (Err (Illegal m p q)) (Err (Illegal n u v)) a b x y =
+      let units = one_pair plan.tiles (slice_set plan.orders of order) p q u v x.2 y.2 in
+      let first = units.0 in
+      let second = units.1 in
+      let step : m ≡ n = x.1 ∙ sym y.1 in
+      inr (inr (cc, x.0 ∙ sym y.0))
+
+  module _ (one : OneOrder) where
+    one_order_taken : (number : ℕ) (plan : Planned) (of : ℕ) (key : ℕ → List ℕ) (r s : Result ⊤ PlanFault) (a b : Planned)
+        → TakesOrder touches shape number plan r a of key → TakesOrder touches shape number plan s b of key → Agree r s ((r ≡ s) × (a ≡ b))
+    one_order_taken number plan of key r s a b (inl x) y = inl x.0
+    one_order_taken number plan of key r s a b (inr x) (inl y) = inr (inl y.0)
+    one_order_taken number plan of key r s a b (inr (o, new, x)) (inr (o', new', y)) =
+        let same = one key (order_of plan.orders of) o o' new.perm new'.perm new.ordered new'.ordered in
+        one_reorder number of o' plan r s a b (subst (λ (order : List ℕ). Reorders touches shape number of order plan r a) same x) y
+
+    later_taken : (number : ℕ) (plan : Planned) (r s : Result ⊤ PlanFault) (a b : Planned)
+        → TakesLater touches shape number plan r a → TakesLater touches shape number plan s b → Agree r s ((r ≡ s) × (a ≡ b))
+    later_taken number plan r s a b x y = inr (inr (x.0 ∙ sym y.0, x.1 ∙ sym y.1))
+
+    one_taken : (number : ℕ) (plan : Planned) (step : Step) (r s : Result ⊤ PlanFault) (a b : Planned)
+        → Takes touches shape number plan r a step → Takes touches shape number plan s b step → Agree r s ((r ≡ s) × (a ≡ b))
+    one_taken number plan (Cpack arrays by) = later_taken number plan
+    one_taken number plan (LexGroup of by) = one_order_taken number plan of (λ position. group_key (packed_places touches shape plan of by position))
+    one_taken number plan (LexSort of by) = one_order_taken number plan of (λ position. sort_key (packed_places touches shape plan of by position))
+    one_taken number plan (Bucket of by size) = one_order_taken number plan of (λ position. bucket_key size (packed_places touches shape plan of by position))
+    one_taken number plan (Tile of at seed parts) = later_taken number plan
+    one_taken number plan (TilePack arrays) = later_taken number plan
+
+    one_all : (steps : List Step) (number : ℕ) (plan : Planned) (a b : Result Planned PlanFault) → TakesAll touches shape number steps plan a → TakesAll touches shape number steps plan b
+        → Agree a b (a ≡ b)
+    one_all [] number plan a b x y = inr (inr (x ∙ sym y))
+    one_all (step ∷ steps) number plan a b (inl (n, x, rest)) (inl (m, y, others)) = elim (one_taken number plan step (Ok tt) (Ok tt) n m x y) [
+      | inl e ↦ cc
+      | inr (inl e) ↦ cc
+      | inr (inr e) ↦ one_all steps (number + 1) m a b (subst (λ (p : Planned). TakesAll touches shape (number + 1) steps p a) e.1 rest) others
+    ]
+    one_all (step ∷ steps) number plan a b (inl (n, x, rest)) (inr (g, y, is)) = elim (one_taken number plan step (Ok tt) (Err g) n plan x y) [
+      | inl e ↦ cc
+      | inr (inl e) ↦ inr (inl (is ∙ (let f : g ≡ Memory = cc in ap Err f)))
+      | inr (inr e) ↦ let f = e.0 in cc
+    ]
+    one_all (step ∷ steps) number plan a b (inr (f, x, is)) (inl (m, y, others)) = elim (one_taken number plan step (Err f) (Ok tt) plan m x y) [
+      | inl e ↦ inl (is ∙ (let h : f ≡ Memory = cc in ap Err h))
+      | inr (inl e) ↦ cc
+      | inr (inr e) ↦ let h = e.0 in cc
+    ]
+    one_all (step ∷ steps) number plan a b (inr (f, x, is)) (inr (g, y, here)) = elim (one_taken number plan step (Err f) (Err g) plan plan x y) [
+      | inl e ↦ inl (is ∙ (let h : f ≡ Memory = cc in ap Err h))
+      | inr (inl e) ↦ inr (inl (here ∙ (let h : g ≡ Memory = cc in ap Err h)))
+      | inr (inr e) ↦ let same = e.0 in let h : f ≡ g = cc in inr (inr (is ∙ (ap Err h ∙ sym here)))
+    ]
+
+    pub one_plan : (steps : List Step) (a b : Result Planned PlanFault) → IsPlanAnswer touches shape steps a → IsPlanAnswer touches shape steps b
+        → (a ≡ b) ⊎ ((a ≡ Err Memory) ⊎ (b ≡ Err Memory))
+    one_plan steps a b (inl e) y = inr (inl e)
+    one_plan steps a b (inr x) (inl e) = inr (inr e)
+    one_plan steps a b (inr x) (inr y) = elim (one_all steps 1 (source_plan shape) a b x y) [ inl e ↦ inr (inl e) | inr (inl e) ↦ inr (inr e) | inr (inr e) ↦ inl e ]

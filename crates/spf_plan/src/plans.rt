@@ -1,0 +1,216 @@
+//! Plans, and taking a step.
+
+ghost use Rattle.std.specs.Prelude.{◌≡◌, ◌<◌, IfOk, OnErr, Some, length, slice_get};
+ghost use Rattle.spf_perm.specs.Perm.{IsPerm};
+ghost use Rattle.spf_script.specs.Resolved.{IsStepFor};
+ghost use Rattle.spf_space.specs.Places.{order_of};
+ghost use Rattle.spf_plan.specs.Planned.{IsPlanOf, pack_of, source_plan};
+ghost use Rattle.spf_plan.specs.Taken.{BelongTogether, Reorders, Takes};
+
+use crate::plan_fault::PlanFault;
+use crate::reorder::try_order;
+use crate::source::{own_places, source_orders};
+use spf_base::NoMemory;
+use spf_group::{bucket, lexgroup, lexsort};
+use spf_layers::Layers;
+use spf_perm::Perm;
+use spf_script::Step;
+use spf_space::{Places, Shape};
+use spf_touch::Touches;
+use sqlite_items::Items;
+use std::alloc::Global;
+use std::marker::Model;
+
+/// Where units are run, how arrays are packed, and what was moved, seen as a record of lists. It takes 4 bytes for each unit,
+/// for each iteration of a step and for each cell.
+#[derive(Drop)]
+pub struct Plan {
+    places: Places,
+    packs: Items<Perm>,
+    tiles: u32,
+    moved_loops: Items<bool>,
+    moved_arrays: Items<bool>,
+}
+
+impl Model for Plan {
+    ghost use Rattle.spf_plan.specs.Planned.{Planned};
+
+    ghost Value = { Planned };
+
+    ghost view = { λ plan. record { tiles = plan.places.tiles; orders = plan.places.orders; packs = plan.packs; count = plan.tiles; moved_loops = plan.moved_loops; moved_arrays = plan.moved_arrays } };
+}
+
+impl Plan {
+    /// The source order in one tile. Linear in the units and the cells.
+    pub fn source(
+        alloc: Global,
+        layers: &Layers,
+        touches: &Touches,
+        shape: &Shape,
+    ) -> Result<Plan, NoMemory>
+        requires { BelongTogether layers.now touches.now shape.now }
+        ensures source { IfOk result (λ plan. plan ≡ source_plan shape.now) }
+        ensures plan { IfOk result (IsPlanOf touches.now shape.now) }
+    {
+        Plan::of_shape(alloc, shape)
+    }
+
+    fn of_shape(alloc: Global, shape: &Shape) -> Result<Plan, NoMemory>
+        ensures { IfOk result (λ plan. plan ≡ source_plan shape.now) }
+    {
+        let tiles = vec![in alloc; 0; shape.units() as usize]?;
+        let loops = shape.loops.as_slice();
+        let arrays = shape.arrays.as_slice();
+        let orders = source_orders(alloc, loops)?;
+        let packs = own_places(alloc, arrays)?;
+        let moved_loops = vec![in alloc; false; loops.len()]?;
+        let moved_arrays = vec![in alloc; false; arrays.len()]?;
+        Ok(Plan {
+            places: Places {
+                tiles: Items::from_vec(tiles),
+                orders,
+            },
+            packs,
+            tiles: 1,
+            moved_loops: Items::from_vec(moved_loops),
+            moved_arrays: Items::from_vec(moved_arrays),
+        })
+    }
+
+    /// Takes the step of this number, counted from 1. After a refusal, and for want of memory, the plan is as before. An order
+    /// costs a sort of the loop's positions, a copy of its old order, and a pass over the touches of all units.
+    pub fn step(
+        &mut self,
+        alloc: Global,
+        layers: &Layers,
+        touches: &Touches,
+        shape: &Shape,
+        number: u32,
+        step: &Step,
+    ) -> Result<(), PlanFault>
+        requires parts { BelongTogether layers.now touches.now shape.now }
+        requires plan { IsPlanOf touches.now shape.now self.old }
+        requires step { IsStepFor shape.now 0 step.now }
+        ensures takes { Takes touches.now shape.now number self.old result self.new step.now }
+        ensures plan { IsPlanOf touches.now shape.now self.new }
+        ensures refused { OnErr result (self.new ≡ self.old) }
+    {
+        match step {
+            Step::LexGroup { of, by } => {
+                let order = lexgroup(
+                    alloc,
+                    touches,
+                    shape,
+                    *of,
+                    *by,
+                    self.order(*of),
+                    self.pack(*by),
+                )?;
+                self.reorder(alloc, layers, touches, shape, number, *of, order)
+            }
+            Step::LexSort { of, by } => {
+                let order = lexsort(
+                    alloc,
+                    touches,
+                    shape,
+                    *of,
+                    *by,
+                    self.order(*of),
+                    self.pack(*by),
+                )?;
+                self.reorder(alloc, layers, touches, shape, number, *of, order)
+            }
+            Step::Bucket { of, by, size } => {
+                let order = bucket(
+                    alloc,
+                    touches,
+                    shape,
+                    *of,
+                    *by,
+                    self.order(*of),
+                    self.pack(*by),
+                    *size,
+                )?;
+                self.reorder(alloc, layers, touches, shape, number, *of, order)
+            }
+            Step::Cpack { .. } | Step::Tile { .. } | Step::TilePack { .. } => {
+                Err(PlanFault::Later { step: number })
+            }
+        }
+    }
+
+    /// Gives the loop this order and marks it as moved, if that reverses no two conflicting units.
+    fn reorder(
+        &mut self,
+        alloc: Global,
+        layers: &Layers,
+        touches: &Touches,
+        shape: &Shape,
+        number: u32,
+        of: u32,
+        order: Perm,
+    ) -> Result<(), PlanFault>
+        requires parts { BelongTogether layers.now touches.now shape.now }
+        requires plan { IsPlanOf touches.now shape.now self.old }
+        requires there { of < length shape.now.loops }
+        requires positions { length order ≡ length (order_of self.old.orders of) }
+        ensures perm { IsPerm order }
+        ensures reorders { Reorders touches.now shape.now number of order self.old result self.new }
+        ensures plan { IsPlanOf touches.now shape.now self.new }
+    {
+        match try_order(alloc, layers, touches, shape, &mut self.places, of, order)? {
+            None => {
+                self.moved_loops.set(of as usize, true);
+                Ok(())
+            }
+            Some((p, q)) => Err(PlanFault::Illegal { step: number, p, q }),
+        }
+    }
+
+    /// The new position of each source position of a loop.
+    fn order(&self, of: u32) -> &Perm
+        requires { of < length self.now.orders }
+        ensures { result.now ≡ order_of self.now.orders of }
+    {
+        &self.places.orders.as_slice()[of as usize]
+    }
+
+    /// The tile of each unit, and the order of each loop.
+    pub fn places(&self) -> &Places
+        ensures tiles { result.now.tiles ≡ self.now.tiles }
+        ensures orders { result.now.orders ≡ self.now.orders }
+    {
+        &self.places
+    }
+
+    /// The packed place of each place of the array.
+    pub fn pack(&self, array: u32) -> &Perm
+        requires { array < length self.now.packs }
+        ensures { result.now ≡ pack_of self.now array }
+    {
+        &self.packs.as_slice()[array as usize]
+    }
+
+    /// How many tiles there are.
+    pub fn tiles(&self) -> u32
+        ensures { result ≡ self.now.count }
+    {
+        self.tiles
+    }
+
+    /// Whether the loop has another order than the source's, or may have.
+    pub fn moved_loop(&self, n: u32) -> bool
+        requires { n < length self.now.moved_loops }
+        ensures { slice_get self.now.moved_loops n ≡ Some result }
+    {
+        self.moved_loops.as_slice()[n as usize]
+    }
+
+    /// Whether the array has other places than its own, or may have.
+    pub fn moved_array(&self, n: u32) -> bool
+        requires { n < length self.now.moved_arrays }
+        ensures { slice_get self.now.moved_arrays n ≡ Some result }
+    {
+        self.moved_arrays.as_slice()[n as usize]
+    }
+}
