@@ -24,7 +24,8 @@ try:
 cases: spf
 	cases/run bin/spf
 
-# How fast the proved program reads, beside `wc -w`, and how fast it walks and runs.
+# How fast the proved program reads, beside `wc -w`, how fast it walks and runs, and what layers and orders cost.
 bench: spf
 	bench/reading bin/spf
 	bench/running bin/spf
+	bench/ordering bin/spf

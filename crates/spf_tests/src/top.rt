@@ -1,6 +1,7 @@
 use spf_base::{Name, Place};
 use spf_io::{MemSink, MemSource};
 use spf_lex::TextKind;
+use spf_space::Unit;
 use spf_top::{Outcome, What, command, status};
 use std::alloc::Global;
 use std::test::Fail;
@@ -94,7 +95,7 @@ fn bundles_are_run(rt: HostRuntime) -> Result<(), Fail> {
 
 #[test]
 fn refusals_are_told_with_their_places(rt: HostRuntime) -> Result<(), Fail> {
-    let rows: [(&[u8], u8, &[u8]); 17] = [
+    let rows: [(&[u8], u8, &[u8]); 19] = [
         (b"", 5, b"text: 1:1 end\n"),
         (
             b"spf 2 kernel { steps 1; } script { } input { }",
@@ -178,10 +179,23 @@ fn refusals_are_told_with_their_places(rt: HostRuntime) -> Result<(), Fail> {
             12,
             b"limit: visits 20971520\n",
         ),
+        // iteration 2 would run before iteration 1, whose cell it reads
         (
-            b"spf 1 kernel { data x[1]; steps 1; loop a (i in 0 .. 1) { } } script { lexgroup a by x; } input { x = 1; }",
-            14,
-            b"later\n",
+            b"spf 1 kernel { param n; index k[n] in 0 .. n; data x[n], y[n]; steps 1; loop a (i in 1 .. n) { x[i] += x[i - 1] + y[k[i]]; } } script { lexgroup a by y; } input { n = 4; k = 3 2 1 0; x = 1 1 1 1; y = 0 0 0 0; }",
+            10,
+            b"illegal: step 1 reverses 0 a 1 and 0 a 2\n",
+        ),
+        // an iteration that reads and adds to one element
+        (
+            b"spf 1 kernel { param n, m; index left[m] in 0 .. n; index right[m] in 0 .. n; data fx[n]; steps 1; loop a (j in 0 .. m) { fx[left[j]] += fx[right[j]]; } } script { lexgroup a by fx; } input { n = 2; m = 2; left = 0 0; right = 1 0; fx = 5 7; }",
+            10,
+            b"illegal: step 1 reverses 0 a 0 and 0 a 1\n",
+        ),
+        // the pair of the least second unit, and for it of the greatest first one, in the first step in which there is one
+        (
+            b"spf 1 kernel { index k[5] in 0 .. 5; data x[5], y[5]; steps 2; loop b (i in 0 .. 1) { } loop a (i in -2 .. 3) { x[0] = y[k[i + 2]]; } } script { lexgroup a by x; lexsort a by y; } input { k = 1 3 2 0 4; x = 0 0 0 0 0; y = 0 0 0 0 0; }",
+            10,
+            b"illegal: step 2 reverses 0 a -1 and 0 a 0\n",
         ),
     ];
     for (input, status, line) in rows {
@@ -286,6 +300,98 @@ fn each_rule_of_inputs_is_just_met_and_just_broken(rt: HostRuntime) -> Result<()
     Ok(())
 }
 
+/// Scripts for two steps of a loop `a` over arrays of two, two and three cells, with the exit status and the line of each.
+/// Those that are right come in front of those that just break the rule.
+const SCRIPTS: [(&[u8], u8, &[u8]); 27] = [
+    (b"", 0, b""),
+    (b"lexgroup a by x;", 0, b""),
+    (b"lexgroup b by x;", 9, b"script: step 1 rule 2\n"),
+    (b"lexsort x by x;", 9, b"script: step 1 rule 2\n"),
+    (b"lexsort a by a;", 9, b"script: step 1 rule 2\n"),
+    (b"cpack x, y by a;", 14, b"later\n"),
+    (b"cpack x, y by x;", 9, b"script: step 1 rule 2\n"),
+    (b"cpack x, y, x by a;", 9, b"script: step 1 rule 3\n"),
+    (b"cpack x, x, z by b;", 9, b"script: step 1 rule 2\n"),
+    (b"cpack x, x, z by a;", 9, b"script: step 1 rule 3\n"),
+    (b"tilepack x, z;", 9, b"script: step 1 rule 4\n"),
+    (b"bucket a by x size 1;", 0, b""),
+    (b"bucket a by x size 0;", 9, b"script: step 1 rule 5\n"),
+    (b"tile a at 0 seed block 1;", 14, b"later\n"),
+    (b"tile a at 0 seed spread 0;", 9, b"script: step 1 rule 5\n"),
+    (b"tile a at 1 seed block 2;", 14, b"later\n"),
+    (b"tile a at 2 seed block 2;", 9, b"script: step 1 rule 6\n"),
+    (
+        b"lexgroup a by x; tile a at 0 seed block 1;",
+        14,
+        b"later\n",
+    ),
+    (
+        b"tile a at 0 seed block 1; lexgroup a by x;",
+        9,
+        b"script: step 2 rule 7\n",
+    ),
+    (
+        b"tile a at 0 seed block 1; tile a at 0 seed block 1;",
+        9,
+        b"script: step 2 rule 7\n",
+    ),
+    (b"tile a at 0 seed block 1; tilepack x;", 14, b"later\n"),
+    (b"tilepack x;", 14, b"later\n"),
+    (
+        b"tilepack x; tile a at 0 seed block 1;",
+        9,
+        b"script: step 1 rule 8\n",
+    ),
+    (b"tile a at 0 seed plug 0 1;", 9, b"script: step 1 rule 9\n"),
+    (b"tile a at 0 seed block 1024;", 14, b"later\n"),
+    (b"tile a at 0 seed block 1025;", 12, b"limit: tiles 1025\n"),
+    (
+        b"tile a at 0 seed block 1025; cpack x by a;",
+        9,
+        b"script: step 2 rule 7\n",
+    ),
+];
+
+/// Runs a bundle with this script.
+fn run_script(alloc: Global, script: &[u8]) -> Result<Ran, Fail> {
+    let kernel: &[u8] =
+        b"spf 1 kernel { data x[2], y[2], z[3]; steps 2; loop a (i in 0 .. 2) { x[i] += y[i]; z[0] += 1; } } script { ";
+    let mut text = Vec::from_slice(alloc, kernel)?;
+    text.extend_from_slice(script)?;
+    text.extend_from_slice(b" } input { x = 1 2; y = 3 4; z = 0 0 0; }")?;
+    run(alloc, &["run"], text.as_slice(), &[], &[])
+}
+
+#[test]
+fn each_rule_of_scripts_is_just_met_and_just_broken(rt: HostRuntime) -> Result<(), Fail> {
+    for (script, status, line) in SCRIPTS {
+        let ran = run_script(rt.alloc(), script)?;
+        assert_eq!(rt; ran.status, status);
+        assert_eq!(rt; ran.err.as_slice(), line);
+        let wanted: &[u8] = if status == 0 {
+            b"x 7 10\ny 3 4\nz 4 0 0\n"
+        } else {
+            b""
+        };
+        assert_eq!(rt; ran.out.as_slice(), wanted);
+    }
+    Ok(())
+}
+
+#[test]
+fn a_script_has_at_most_32_steps(rt: HostRuntime) -> Result<(), Fail> {
+    let mut script = Vec::new(rt.alloc());
+    for _ in 0..32 {
+        script.extend_from_slice(b"lexgroup a by x; ")?;
+    }
+    assert_eq!(rt; run_script(rt.alloc(), script.as_slice())?.status, 0);
+    script.extend_from_slice(b"lexgroup a by x; ")?;
+    let ran = run_script(rt.alloc(), script.as_slice())?;
+    assert_eq!(rt; ran.status, 9);
+    assert_eq!(rt; ran.err.as_slice(), b"script: step 33 rule 1\n".as_slice());
+    Ok(())
+}
+
 /// The exit status of a run on so many blanks, and its line.
 fn run_blanks(alloc: Global, count: usize) -> Result<(u8, Vec<u8>), Fail> {
     let mut words = Vec::new(alloc);
@@ -329,12 +435,22 @@ fn a_refused_word_and_a_device_that_fails_are_told(rt: HostRuntime) -> Result<()
     Ok(())
 }
 
+/// A unit of the first loop in the first step.
+fn unit(position: u32) -> Unit {
+    Unit {
+        step: 0,
+        loop_no: 0,
+        position,
+    }
+}
+
 #[test]
 fn each_outcome_has_its_status(rt: HostRuntime) -> Result<(), Fail> {
     let place = Place { line: 1, column: 1 };
     let kind = TextKind::End;
     let name = Name::copy(rt.alloc(), b"x")?;
     let (loop_no, iteration, site, value) = (0, -1, 1, -1);
+    let (p, q) = (unit(0), unit(1));
     let rows = [
         (Outcome::Done, 0),
         (Outcome::Memory, 1),
@@ -360,6 +476,8 @@ fn each_outcome_has_its_status(rt: HostRuntime) -> Result<(), Fail> {
             },
             8,
         ),
+        (Outcome::Script { step: 1, rule: 2 }, 9),
+        (Outcome::Illegal { step: 1, p, q }, 10),
         (
             Outcome::Limit {
                 what: What::Bytes,

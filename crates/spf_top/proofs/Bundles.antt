@@ -1,19 +1,15 @@
 -- What is known of a bundle that was read, and of the cells and the text of what it gives.
-use Rattle.std.proofs.Common.{◌≡◌, ℕ, suc, ◌+◌, ◌*◌, ◌≤◌, List, [], ◌∷◌, length, map, All, Ok, Err, Some, None, inl, inr, refl, sym, ap, ◌∙◌, subst, arith}
+use Rattle.std.proofs.Common.{◌≡◌, ℕ, suc, ◌+◌, ◌≤◌, List, [], ◌∷◌, length, map, All, Ok, None, refl, sym, ap, ◌∙◌, subst, arith}
 use Rattle.std.specs.Prelude.{ℤ, pos, slice_index_or}
 use Rattle.std.specs.List.{AllByRecursion, range_with_len}
 use Rattle.std.proofs.lemmas.List.Elements.{All-from_recursion}
 use Rattle.std.proofs.lemmas.List.Sums.{sum_by-cons}
 use Rattle.spf_term.specs.Environment.{Environment}
-use Rattle.spf_space.specs.Layout.{AreAdjacent, cells_in, iterations}
-use Rattle.spf_space.specs.Units.{units_of}
+use Rattle.spf_space.specs.Layout.{AreAdjacent, cells_in}
 use Rattle.spf_space.specs.declared.shape.ArrayShape.{ArrayShape}
-use Rattle.spf_space.specs.declared.shape.Shape.{Shape}
 use Rattle.spf_kernel.specs.Parsed.{IsParsed}
 use Rattle.spf_kernel.specs.declared.tree.Tree.{Tree}
 use Rattle.spf_store.specs.Accepted.{IsAccepted}
-use Rattle.spf_store.specs.FirstFault as walk
-use Rattle.spf_store.specs.Shaped.{HasTooManyUnits, IsShapeOf, data_of, loops_of, size}
 use Rattle.spf_store.specs.Source.{source_result}
 use Rattle.spf_store.specs.Stored.{IsStored, Stored}
 use Rattle.spf_input.specs.Answer.{IsBundleAnswer}
@@ -21,10 +17,8 @@ use Rattle.spf_input.specs.Given.{Given, given_in}
 use Rattle.spf_input.specs.Numbers.{env_of}
 use Rattle.spf_input.specs.Rules.{first_fault_of}
 use Rattle.spf_input.specs.declared.reading.Bundle.{Bundle}
-use Rattle.spf_top.specs.Command.{IsKept, checks, fault_outcome, first_fault, units_in}
+use Rattle.spf_top.specs.Kept.{IsKept}
 use Rattle.spf_top.specs.Texts.{arrays_text, cell_of, result_cells, text_of}
-use Rattle.spf_top.specs.declared.outcome.Outcome.TheVariants.{Limit}
-use Rattle.spf_top.specs.declared.outcome.What.TheVariants.{Units}
 
 pub kept_bundle : ((tree : Tree) (given : List Given) → IsParsed tree → first_fault_of tree given ≡ None → IsAccepted (env_of tree given) tree) → (bundle : Bundle) → IsParsed bundle.kernel
     → (bytes : List ℕ) → IsBundleAnswer bytes (Ok bundle) → IsKept bundle
@@ -36,40 +30,7 @@ kept_bundle law bundle parsed bytes (tokens, lexes, (pair, parses, (((same, raw)
       steps = rw (is.kernel, is.env) is.steps;
     }
 
--- ---- the checks
-
-pub steps_are : (bundle : Bundle) (shape : Shape) → IsKept bundle → IsShapeOf bundle.env bundle.kernel shape → shape.steps ≡ bundle.steps
-steps_are bundle shape kept is = is.steps ∙ sym kept.steps
-
-pub few_units : (bundle : Bundle) (shape : Shape) → IsKept bundle → IsShapeOf bundle.env bundle.kernel shape → units_in bundle ≤ 4194304
-few_units bundle shape kept is =
-    let product : units_in bundle ≡ shape.steps * iterations shape.loops = λ i. sym (steps_are bundle shape kept is) i * iterations (sym is.loops i) in
-    omega (arith, product, shape.layout.units)
-
-pub many_units : (bundle : Bundle) (count : ℕ) → IsKept bundle → HasTooManyUnits bundle.env bundle.kernel count → checks bundle (Err (Limit Units count))
-many_units bundle count kept many =
-    let same : count ≡ units_in bundle = many.units ∙ λ i. sym kept.steps i * iterations (loops_of bundle.env bundle.kernel) in
-    inl (inl (ap (Limit Units) same, omega (arith, same, many.many)))
-
-module _ (bundle : Bundle) (shape : Shape) (kept : IsKept bundle) (is : IsShapeOf bundle.env bundle.kernel shape) where
-  same_fault : walk.first_fault bundle.env bundle.kernel shape.steps ≡ first_fault bundle
-  same_fault = ap (walk.first_fault bundle.env bundle.kernel) (steps_are bundle shape kept is)
-
-  pub passes : walk.first_fault bundle.env bundle.kernel shape.steps ≡ None → checks bundle (Ok bundle)
-  passes none = (bundle, (refl, few_units bundle shape kept is), (refl, sym same_fault ∙ none))
-
-  pub stops : (fault : walk.Fault) → walk.first_fault bundle.env bundle.kernel shape.steps ≡ Some fault → checks bundle (Err (fault_outcome fault))
-  stops fault some = inr (bundle, (refl, few_units bundle shape kept is), inl (fault, sym same_fault ∙ some, refl))
-
-pub no_fault : (bundle : Bundle) → checks bundle (Ok bundle) → first_fault bundle ≡ None
-no_fault bundle (same, (same_is, few), (is_same, none)) = subst (λ (b : Bundle). first_fault b ≡ None) same_is none
-
 -- ---- the text
-
--- with no steps the values stay as they are
-pub no_steps : (env : Environment) (tree : Tree) (cells : ℕ → ℤ) (e : ℕ) → source_result env tree 0 cells e ≡ cells e
-unfolding source_result units_of
-no_steps env tree cells e = refl
 
 cells_from : (f : ℕ → ℤ) (at : ℕ) (cells : List ℤ) → ((e : ℕ) → slice_index_or cells e (pos 0) ≡ f (at + e)) → cells ≡ map f (range_with_len at (length cells))
 cells_from f at [] each = refl
@@ -98,7 +59,3 @@ ends_within total from (array ∷ arrays) adjacent within =
 pub arrays_fit : (store : Stored) → IsStored store → All (λ (array : ArrayShape). array.start + array.length ≤ length store.cells) store.arrays
 arrays_fit store is = All-from_recursion (λ (array : ArrayShape). array.start + array.length ≤ length store.cells) store.arrays
     (ends_within (length store.cells) 0 store.arrays is.adjacent (omega (arith, is.filled)))
-
-pub no_elements : {A : Type 0} (xs : List A) → length xs ≡ 0 → xs ≡ []
-no_elements [] none = refl
-no_elements (x ∷ xs) none = absurd (omega (arith, none))

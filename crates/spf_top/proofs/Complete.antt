@@ -1,22 +1,41 @@
 -- What bytes answer is one thing, so that nothing but want of memory keeps a text from being written.
-use Rattle.std.proofs.Common.{◌≡◌, ℕ, ◌<◌, ◌≤◌, List, length, drop, Option, None, Some, IfSome, Result, Ok, Err, refl, sym, ap, subst, ◌∙◌, inl, inr, arith}
+use Rattle.std.proofs.Common.{◌≡◌, ℕ, ◌*◌, ◌≤◌, List, length, drop, Option, None, Some, IfSome, Result, Ok, Err, refl, sym, ap, subst, ◌∙◌, inl, inr, arith}
 use Rattle.std.specs.Prelude.{◌⊎◌}
 use Rattle.std.proofs.lemmas.Bool.{cases_lt}
 use Rattle.std.proofs.lemmas.List.{length-append, take-append-drop}
 use Rattle.spf_io.specs.Stream.{Takes}
-use Rattle.spf_top.specs.declared.outcome.What.TheVariants.{Bytes}
+use Rattle.spf_space.specs.Layout.{iterations, limit}
+use Rattle.spf_space.specs.declared.shape.LoopShape.{LoopShape}
+use Rattle.spf_space.specs.declared.shape.Shape.{Shape}
+use Rattle.spf_touch.specs.declared.touch.Touch.{Touch}
+use Rattle.spf_store.specs.Shaped.{IsShapeAnswer, loops_of, size}
+use Rattle.spf_store.specs.declared.shapes.ShapeFault.{ShapeFault}
+use Rattle.spf_store.specs.declared.shapes.ShapeFault.TheVariants as shape_is
+use Rattle.spf_access.specs.Answer.{IsAccessAnswer}
+use Rattle.spf_access.specs.declared.access_fault.AccessFault.TheVariants as access_is
+use Rattle.spf_script.specs.Resolved.{IsResolveAnswer}
+use Rattle.spf_script.specs.declared.resolved.Step.{Step}
+use Rattle.spf_script.specs.declared.resolving.ScriptFault.{ScriptFault}
+use Rattle.spf_script.specs.declared.resolving.ScriptFault.TheVariants as script_is
+use Rattle.spf_script.specs.declared.step.TextStep.{TextStep}
+use Rattle.spf_plan.specs.Planned.{Planned}
+use Rattle.spf_plan.specs.Taken.{IsPlanAnswer}
+use Rattle.spf_plan.specs.declared.plan_fault.PlanFault.{PlanFault}
+use Rattle.spf_plan.specs.declared.plan_fault.PlanFault.TheVariants as plan_is
 use Rattle.spf_input.specs.Answer.{IsBundleAnswer}
-use Rattle.spf_input.specs.Stage.{OneAnswer, ◌then◌}
+use Rattle.spf_input.specs.Stage.{OneAnswer, ◌then◌, with_given}
 use Rattle.spf_input.specs.declared.reading.Bundle.{Bundle}
 use Rattle.spf_input.specs.declared.fault.InputFault.{InputFault}
-use Rattle.spf_input.specs.declared.fault.InputFault.TheVariants as input
+use Rattle.spf_input.specs.declared.fault.InputFault.TheVariants as input_is
 use Rattle.spf_input.proofs.OneBundle.{one_whole_bundle}
 use Rattle.spf_input.proofs.Stages.{one_then}
 use Rattle.spf_top.specs.declared.outcome.Outcome.{Outcome}
-use Rattle.spf_top.specs.declared.outcome.Outcome.TheVariants.{Done, Memory, Usage, ReadFault, WriteFault, Text, Kernel, Input, Range, Limit, Later}
-use Rattle.spf_top.specs.Outcome.{refused}
+use Rattle.spf_top.specs.declared.outcome.Outcome.TheVariants.{Done, Memory, Usage, ReadFault, WriteFault, Text, Kernel, Input, Range, Script, Illegal, Limit, Later}
+use Rattle.spf_top.specs.declared.outcome.What.TheVariants.{Bytes}
+use Rattle.spf_top.specs.Outcome.{plan_refused, refused, script_refused, shape_refused, walk_refused}
 use Rattle.spf_top.specs.Words.{IsAccepted, IsRefusedAt}
-use Rattle.spf_top.specs.Command.{AnswersWords, AnswersInput, IsDoneOrMemory, IsOfBytes, NamesLoop, NamesLoopOf, checks, counts_units, executes, fits, reads, runs, walks}
+use Rattle.spf_top.specs.Command.{AnswersWords, AnswersInput, HasLoopsOf, IsDoneOrMemory, IsOfBytes, carries_out, compiles, executes, fits, measures, plans, reads, refusing, resolves, runs, walks}
+use Rattle.spf_top.proofs.Shapes.{same_shape}
 
 -- accepted words are refused at no word
 not_refused : (words : List (List ℕ)) (word : ℕ) → IsAccepted words → IsRefusedAt words word → ⊥
@@ -32,72 +51,104 @@ one_fits : OneAnswer Memory fits
 one_fits bytes same (Ok other) fit fit_too = inl (ap Ok (fit_too.0 ∙ sym fit.0))
 one_fits bytes same (Err refusal) fit long = absurd (omega (arith, fit.1, long.1))
 
-refused_memory : (bundle : Bundle) (fault : InputFault) (answer : Result Bundle InputFault) → answer ≡ Err fault → (answer ≡ Ok bundle) ⊎ (answer ≡ Err input.Memory) → refused fault ≡ Memory
-refused_memory bundle fault answer is (inl e) = absurd cc
-refused_memory bundle fault answer is (inr e) = let f : fault ≡ input.Memory = cc in ap refused f
+-- nothing but one fault is answered besides a value; told as outcomes, nothing but one outcome
+module _ {S B : Type 0} (free : S) where
+  same_value : (b other : B) (answer : Result B S) → answer ≡ Ok other → (answer ≡ Ok b) ⊎ (answer ≡ Err free) → other ≡ b
+  same_value b other answer is (inl e) = cc
+  same_value b other answer is (inr e) = absurd cc
 
-ok_too : (bundle other : Bundle) (answer : Result Bundle InputFault) → answer ≡ Ok other → (answer ≡ Ok bundle) ⊎ (answer ≡ Err input.Memory) → other ≡ bundle
-ok_too bundle other answer is (inl e) = cc
-ok_too bundle other answer is (inr e) = absurd cc
+  same_fault : (b : B) (fault : S) (answer : Result B S) → answer ≡ Err fault → (answer ≡ Ok b) ⊎ (answer ≡ Err free) → fault ≡ free
+  same_fault b fault answer is (inl e) = absurd cc
+  same_fault b fault answer is (inr e) = cc
+
+module _ {S A B : Type 0} (free : S) (refuse : S → Outcome) (p : A → Result B S → Type 0) where
+  one_refusing : OneAnswer free p → OneAnswer (refuse free) (refusing refuse p)
+  one_refusing one a b (Ok other) is is_too = inl (ap Ok (same_value free b other (Ok other) refl (one a b (Ok other) is is_too)))
+  one_refusing one a b (Err refusal) is (fault, failed, same) = inr (ap Err (same ∙ ap refuse (same_fault free b fault (Err fault) refl (one a b (Err fault) is failed))))
+
+-- a stage that answers what it was given too
+one_with_given : {A B : Type 0} (p : A → Result B Outcome → Type 0) → OneAnswer Memory p → OneAnswer Memory (with_given p)
+one_with_given p one a (same, b) (Ok (other, c)) (is, found) (is_too, found_too) = inl (λ i. Ok ((is_too ∙ sym is) i, same_value Memory b c (Ok c) refl (one a b (Ok c) found found_too) i))
+one_with_given p one a (same, b) (Err refusal) (is, found) failed = inr (ap Err (same_fault Memory b refusal (Err refusal) refl (one a b (Err refusal) found failed)))
+
+-- of two answers of which neither is out of memory, each is the other
+by_law : {S B : Type 0} (free : S) (b : B) (result : Result B S) → (result ≡ Ok b) ⊎ ((result ≡ Err free) ⊎ (Ok b ≡ Err free)) → (result ≡ Ok b) ⊎ (result ≡ Err free)
+by_law free b result (inl e) = inl e
+by_law free b result (inr (inl e)) = inr e
+by_law free b result (inr (inr e)) = absurd cc
 
 pub one_reads : OneAnswer Memory reads
-one_reads bytes bundle (Ok other) is is_too = inl (ap Ok (ok_too bundle other (Ok other) refl (one_whole_bundle bytes bundle (Ok other) is is_too)))
-one_reads bytes bundle (Err refusal) is (fault, failed, refused_is) =
-    inr (ap Err (refused_is ∙ refused_memory bundle fault (Err fault) refl (one_whole_bundle bytes bundle (Err fault) is failed)))
+one_reads = one_refusing input_is.Memory refused IsBundleAnswer one_whole_bundle
 
-one_counts_units : OneAnswer Memory counts_units
-one_counts_units bundle same (Ok other) few few_too = inl (ap Ok (few_too.0 ∙ sym few.0))
-one_counts_units bundle same (Err refusal) few (inl many) = absurd (omega (arith, few.1, many.1))
-one_counts_units bundle same (Err refusal) few (inr e) = inr (ap Err e)
+one_shape : OneAnswer shape_is.Memory (λ (bundle : Bundle). IsShapeAnswer bundle.env bundle.kernel)
+one_shape bundle b (Ok other) is is_too = inl (ap Ok (same_shape other b (is_too.steps ∙ sym is.steps) (is_too.loops ∙ sym is.loops) (is_too.arrays ∙ sym is.arrays)))
+one_shape bundle b (Err (shape_is.Units count)) is many =
+    let few : size bundle.env bundle.kernel.steps * iterations (loops_of bundle.env bundle.kernel) ≤ limit = subst (λ (units : ℕ). units ≤ limit) (λ i. is.steps i * iterations (is.loops i)) b.layout.units in
+    absurd (omega (arith, few, many.units, many.many))
+one_shape bundle b (Err shape_is.Memory) is free = inr refl
 
-one_walks : OneAnswer Memory walks
-one_walks bundle same (Ok other) none none_too = inl (ap Ok (none_too.0 ∙ sym none.0))
-one_walks bundle same (Err refusal) none (inl some) = let e = sym none.1 ∙ some.1 in absurd cc
-one_walks bundle same (Err refusal) none (inr e) = inr (ap Err e)
+one_access : OneAnswer access_is.Memory (λ (given : Bundle × Shape). IsAccessAnswer given.0.env given.0.kernel given.1.steps)
+one_access given b (Ok other) is is_too = inl (ap Ok (is_too.1 ∙ sym is.1))
+one_access given b (Err (access_is.Range loop_no iteration site value)) is some = let e = sym is.0 ∙ some in absurd cc
+one_access given b (Err (access_is.Visits count)) is some = let e = sym is.0 ∙ some in absurd cc
+one_access given b (Err access_is.Memory) is free = inr refl
 
 one_executes : OneAnswer Memory executes
-one_executes bundle text (Ok other) ran ran_too = inl (ap Ok (ran_too.1 ∙ sym ran.1))
-one_executes bundle text (Err refusal) ran (inl later) = absurd (later.1 ran.0)
-one_executes bundle text (Err refusal) ran (inr e) = inr (ap Err e)
+one_executes given text (Ok other) ran ran_too = inl (ap Ok (ran_too ∙ sym ran))
+one_executes given text (Err refusal) ran free = inr (ap Err free)
 
-one_runs : OneAnswer Memory runs
-unfolding runs
-one_runs =
-    one_then Memory fits (reads then (checks then executes)) one_fits
-    (one_then Memory reads (checks then executes) one_reads (one_then Memory checks executes (one_then Memory counts_units walks one_counts_units one_walks) one_executes))
+-- the laws of the layers above
+pub record Laws : Type 0 where
+  pub resolve : (shape : Shape) (plugs : ℕ) (script : List TextStep) (a b : Result (List Step) ScriptFault) → IsResolveAnswer shape plugs script a → IsResolveAnswer shape plugs script b →
+      (a ≡ b) ⊎ ((a ≡ Err script_is.Memory) ⊎ (b ≡ Err script_is.Memory))
+  pub plan : (touches : List (List Touch)) (shape : Shape) (steps : List Step) (a b : Result Planned PlanFault) → IsPlanAnswer touches shape steps a → IsPlanAnswer touches shape steps b →
+      (a ≡ b) ⊎ ((a ≡ Err plan_is.Memory) ⊎ (b ≡ Err plan_is.Memory))
+
+module _ (laws : Laws) where
+  one_resolves : OneAnswer Memory resolves
+  one_resolves = one_refusing script_is.Memory script_refused _ (λ given b result is is_too. by_law script_is.Memory b result (laws.resolve given.0.1 0 given.0.0.script result (Ok b) is_too is))
+
+  one_plans : OneAnswer Memory plans
+  one_plans = one_refusing plan_is.Memory plan_refused _ (λ given b result is is_too. by_law plan_is.Memory b result (laws.plan given.0.1 given.0.0.1 given.1 result (Ok b) is_too is))
+
+  one_carries_out : OneAnswer Memory carries_out
+  one_carries_out =
+      one_then Memory (with_given walks) (with_given resolves then (with_given plans then executes)) (one_with_given walks (one_refusing access_is.Memory walk_refused _ one_access))
+      (one_then Memory (with_given resolves) (with_given plans then executes) (one_with_given resolves one_resolves) (one_then Memory (with_given plans) executes (one_with_given plans one_plans) one_executes))
+
+  one_runs : OneAnswer Memory runs
+  unfolding runs
+  one_runs =
+      one_then Memory fits (reads then compiles) one_fits
+      (one_then Memory reads compiles one_reads (one_then Memory (with_given measures) carries_out (one_with_given measures (one_refusing shape_is.Memory shape_refused _ one_shape)) one_carries_out))
 
 -- bytes for which a text is written are refused for want of memory alone
-refused_for_memory : (bytes text : List ℕ) (refusal : Outcome) → runs bytes (Ok text) → runs bytes (Err refusal) → refusal ≡ Memory
-refused_for_memory bytes text refusal ran refused = by (Err refusal) refl (one_runs bytes text (Err refusal) ran refused) where
-  by : (answer : Result (List ℕ) Outcome) → answer ≡ Err refusal → (answer ≡ Ok text) ⊎ (answer ≡ Err Memory) → refusal ≡ Memory
-  by answer is (inl e) = absurd cc
-  by answer is (inr e) = cc
+refused_for_memory : Laws → (bytes text : List ℕ) (refusal : Outcome) → runs bytes (Ok text) → runs bytes (Err refusal) → refusal ≡ Memory
+refused_for_memory laws bytes text refusal ran refused = same_fault Memory text refusal (Err refusal) refl (one_runs laws bytes text (Err refusal) ran refused)
 
--- ---- the name of a loop
+-- ---- the names of loops
 
--- the bytes are one bundle, so that a name that is right for it is the right one
-pub names_loop : (bytes : List ℕ) (bundle : Bundle) (outcome : Outcome) (name : List ℕ) → reads bytes (Ok bundle) → NamesLoop bundle.kernel outcome name → NamesLoopOf bytes outcome name
-names_loop bytes bundle outcome name is named other is_too =
-    subst (λ (given : Bundle). NamesLoop given.kernel outcome name) (sym (ok_too bundle other (Ok other) refl (one_whole_bundle bytes bundle (Ok other) is is_too))) named
+-- the bytes are one bundle, so that loops that are right for it are the right ones
+pub has_loops : (bytes : List ℕ) (bundle : Bundle) (outcome : Outcome) (loops : List LoopShape) → reads bytes (Ok bundle) → loops ≡ loops_of bundle.env bundle.kernel → HasLoopsOf bytes outcome loops
+has_loops bytes bundle outcome loops is same names other is_too =
+    subst (λ (given : Bundle). loops ≡ loops_of given.env given.kernel) (same_value Memory other bundle (Ok bundle) refl (one_reads bytes other (Ok bundle) is_too is)) same
 
--- a text that is no bundle isn't refused in a loop
-pub no_loop : (bytes : List ℕ) (fault : InputFault) (name : List ℕ) → NamesLoopOf bytes (refused fault) name
-no_loop bytes (input.Text place kind) name bundle is = tt
-no_loop bytes (input.Kernel place rule) name bundle is = tt
-no_loop bytes (input.Input given place rule) name bundle is = tt
-no_loop bytes input.Memory name bundle is = tt
+-- a text that is no bundle isn't refused in a loop, and neither is one with too many units
+pub no_loops : (bytes : List ℕ) (fault : InputFault) (loops : List LoopShape) → HasLoopsOf bytes (refused fault) loops
+no_loops bytes (input_is.Text place kind) loops names = absurd names
+no_loops bytes (input_is.Kernel place rule) loops names = absurd names
+no_loops bytes (input_is.Input given place rule) loops names = absurd names
+no_loops bytes input_is.Memory loops names = absurd names
 
--- ---- the stages one behind the other
-
-pub refused_in_checks : (bytes : List ℕ) (bundle : Bundle) (refusal outcome : Outcome) → length bytes ≤ 67108864 → reads bytes (Ok bundle) → checks bundle (Err refusal)
-    → (outcome ≡ refusal) ⊎ (outcome ≡ Memory) → runs bytes (Err outcome)
-unfolding runs
-refused_in_checks bytes bundle refusal outcome short read refused (inl same) = rw same (inr (bytes, (refl, short), inr (bundle, read, inl refused)))
-refused_in_checks bytes bundle refusal outcome short read refused (inr memory) = rw memory (inr (bytes, (refl, short), inr (bundle, read, inl (inl (inr refl)))))
+pub no_loops_measured : (bytes : List ℕ) (bundle : Bundle) (refusal : Outcome) (loops : List LoopShape) → measures bundle (Err refusal) → HasLoopsOf bytes refusal loops
+no_loops_measured bytes bundle refusal loops (fault, failed, same) = subst (λ (outcome : Outcome). HasLoopsOf bytes outcome loops) (sym same) (by fault) where
+  by : (fault : ShapeFault) → HasLoopsOf bytes (shape_refused fault) loops
+  by (shape_is.Units count) names = absurd names
+  by shape_is.Memory names = absurd names
 
 -- ---- the call
 
-module _ (words : List (List ℕ)) (bytes : List ℕ) (before after : Option (List ℕ)) (R W : Type 0) where
+module _ (laws : Laws) (words : List (List ℕ)) (bytes : List ℕ) (before after : Option (List ℕ)) (R W : Type 0) where
   by_outcome : (outcome : Outcome) → AnswersWords words outcome → AnswersInput bytes before after outcome → (outcome ≡ ReadFault → R) → (outcome ≡ WriteFault → W) → IsAccepted words
       → (text : List ℕ) → runs bytes (Ok text) → ¬ R → ¬ W → IsDoneOrMemory outcome
   by_outcome Done answers input read write accepted text ran not_read not_write = tt
@@ -105,18 +156,20 @@ module _ (words : List (List ℕ)) (bytes : List ℕ) (before after : Option (Li
   by_outcome (Usage word) answers input read write accepted text ran not_read not_write = absurd (not_refused words word accepted answers)
   by_outcome ReadFault answers input read write accepted text ran not_read not_write = absurd (not_read (read refl))
   by_outcome WriteFault answers input read write accepted text ran not_read not_write = absurd (not_write (write refl))
-  by_outcome (Text place kind) answers input read write accepted text ran not_read not_write = let e = refused_for_memory bytes text (Text place kind) ran input in absurd cc
-  by_outcome (Kernel place rule) answers input read write accepted text ran not_read not_write = let e = refused_for_memory bytes text (Kernel place rule) ran input in absurd cc
-  by_outcome (Input name place rule) answers input read write accepted text ran not_read not_write = let e = refused_for_memory bytes text (Input name place rule) ran input in absurd cc
-  by_outcome (Range loop_no iteration site value) answers input read write accepted text ran not_read not_write = let e = refused_for_memory bytes text (Range loop_no iteration site value) ran input in absurd cc
-  by_outcome (Limit what count) answers input read write accepted text ran not_read not_write = let e = refused_for_memory bytes text (Limit what count) ran input in absurd cc
-  by_outcome Later answers input read write accepted text ran not_read not_write = let e = refused_for_memory bytes text Later ran input in absurd cc
+  by_outcome (Text place kind) answers input read write accepted text ran not_read not_write = let e = refused_for_memory laws bytes text (Text place kind) ran input in absurd cc
+  by_outcome (Kernel place rule) answers input read write accepted text ran not_read not_write = let e = refused_for_memory laws bytes text (Kernel place rule) ran input in absurd cc
+  by_outcome (Input name place rule) answers input read write accepted text ran not_read not_write = let e = refused_for_memory laws bytes text (Input name place rule) ran input in absurd cc
+  by_outcome (Range loop_no iteration site value) answers input read write accepted text ran not_read not_write = let e = refused_for_memory laws bytes text (Range loop_no iteration site value) ran input in absurd cc
+  by_outcome (Script step rule) answers input read write accepted text ran not_read not_write = let e = refused_for_memory laws bytes text (Script step rule) ran input in absurd cc
+  by_outcome (Illegal step p q) answers input read write accepted text ran not_read not_write = let e = refused_for_memory laws bytes text (Illegal step p q) ran input in absurd cc
+  by_outcome (Limit what count) answers input read write accepted text ran not_read not_write = let e = refused_for_memory laws bytes text (Limit what count) ran input in absurd cc
+  by_outcome Later answers input read write accepted text ran not_read not_write = let e = refused_for_memory laws bytes text Later ran input in absurd cc
 
-pub completes : (words : List (List ℕ)) (held before after : Option (List ℕ)) (read_rose write_rose : Type 0) (outcome : Outcome) → AnswersWords words outcome → IfSome held (λ bytes. AnswersInput bytes before after outcome)
+pub completes : Laws → (words : List (List ℕ)) (held before after : Option (List ℕ)) (read_rose write_rose : Type 0) (outcome : Outcome) → AnswersWords words outcome → IfSome held (λ bytes. AnswersInput bytes before after outcome)
     → (outcome ≡ ReadFault → read_rose) → (outcome ≡ WriteFault → write_rose) → IsAccepted words
     → IfSome held (λ bytes. (text : List ℕ) → runs bytes (Ok text) → ¬ read_rose → ¬ write_rose → IsDoneOrMemory outcome)
-completes words None before after R W outcome answers input read write accepted = tt
-completes words (Some bytes) before after R W outcome answers input read write accepted = by_outcome words bytes before after R W outcome answers input read write accepted
+completes laws words None before after R W outcome answers input read write accepted = tt
+completes laws words (Some bytes) before after R W outcome answers input read write accepted = by_outcome laws words bytes before after R W outcome answers input read write accepted
 
 -- what is known of the bytes that were read is known of those that were held
 pub of_whole : (held : Option (List ℕ)) (bytes : List ℕ) → IfSome held (λ told. told ≡ bytes) → (P : List ℕ → Type 0) → P bytes → IfSome held P
@@ -134,6 +187,8 @@ refusal_answers bytes before after (Text place kind) own refused = refused
 refusal_answers bytes before after (Kernel place rule) own refused = refused
 refusal_answers bytes before after (Input name place rule) own refused = refused
 refusal_answers bytes before after (Range loop_no iteration site value) own refused = refused
+refusal_answers bytes before after (Script step rule) own refused = refused
+refusal_answers bytes before after (Illegal step p q) own refused = refused
 refusal_answers bytes before after (Limit what count) own refused = refused
 refusal_answers bytes before after Later own refused = refused
 
@@ -148,6 +203,8 @@ words_accepted words (Text place kind) own accepted = accepted
 words_accepted words (Kernel place rule) own accepted = accepted
 words_accepted words (Input name place rule) own accepted = accepted
 words_accepted words (Range loop_no iteration site value) own accepted = accepted
+words_accepted words (Script step rule) own accepted = accepted
+words_accepted words (Illegal step p q) own accepted = accepted
 words_accepted words (Limit what count) own accepted = accepted
 words_accepted words Later own accepted = accepted
 

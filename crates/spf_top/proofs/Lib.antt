@@ -1,4 +1,6 @@
 pub mod Bundles
 pub mod Complete
+pub mod Lines
 pub mod Pieces
+pub mod Shapes
 pub mod WordLists

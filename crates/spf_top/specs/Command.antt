@@ -1,78 +1,72 @@
 -- What one call of `command` means.
-use Rattle.std.specs.Prelude.{ℕ, ◌≡◌, ◌⊎◌, ◌*◌, ◌≤◌, ◌<◌, List, [], length, map, take, Option, None, Some, Result, Ok, Err, ⊤}
-use Rattle.spf_io.specs.Stream.{Appends}
-use Rattle.spf_kernel.specs.TreeNames.{name_at}
-use Rattle.spf_kernel.specs.declared.tree.Loop.{Loop}
-use Rattle.spf_kernel.specs.declared.tree.Tree.{Tree}
-use Rattle.spf_space.specs.Layout.{iterations}
-use Rattle.spf_store.specs.FirstFault as walk
-use Rattle.spf_store.specs.Accepted as store
-use Rattle.spf_store.specs.Shaped.{data_of, loops_of, size}
+use Rattle.std.specs.Prelude.{ℕ, ◌≡◌, ◌≤◌, ◌<◌, List, length, take, Option, Result, Ok, Err, ⊤}
+use Rattle.spf_access.specs.Answer.{IsAccessAnswer}
 use Rattle.spf_input.specs.Answer.{IsBundleAnswer}
-use Rattle.spf_input.specs.Stage.{◌then◌}
+use Rattle.spf_input.specs.Stage.{◌then◌, with_given}
 use Rattle.spf_input.specs.declared.reading.Bundle.{Bundle}
-use Rattle.spf_input.specs.declared.fault.InputFault.{InputFault}
+use Rattle.spf_io.specs.Stream.{Appends}
+use Rattle.spf_plan.specs.Planned.{Planned}
+use Rattle.spf_plan.specs.Taken.{IsPlanAnswer}
+use Rattle.spf_script.specs.Resolved.{IsResolveAnswer}
+use Rattle.spf_script.specs.declared.resolved.Step.{Step}
+use Rattle.spf_space.specs.declared.shape.LoopShape.{LoopShape}
+use Rattle.spf_space.specs.declared.shape.Shape.{Shape}
+use Rattle.spf_store.specs.Shaped.{IsShapeAnswer, loops_of}
+use Rattle.spf_touch.specs.declared.touch.Touch.{Touch}
 use Rattle.spf_top.specs.declared.outcome.Outcome.{Outcome}
-use Rattle.spf_top.specs.declared.outcome.Outcome.TheVariants.{Done, Memory, Usage, ReadFault, WriteFault, Limit, Range, Later}
-use Rattle.spf_top.specs.declared.outcome.What.TheVariants.{Bytes, Units, Visits}
-use Rattle.spf_top.specs.Outcome.{refused}
+use Rattle.spf_top.specs.declared.outcome.Outcome.TheVariants.{Done, Memory, Usage, ReadFault, WriteFault, Limit, Range, Illegal}
+use Rattle.spf_top.specs.declared.outcome.What.TheVariants.{Bytes}
+use Rattle.spf_top.specs.Outcome.{plan_refused, refused, script_refused, shape_refused, walk_refused}
 use Rattle.spf_top.specs.Texts.{text_of}
 use Rattle.spf_top.specs.Words.{IsAccepted, IsRefusedAt}
 
--- ---- stages: each goes on, or answers why the bytes are refused
+-- ---- stages: each goes on with what it answers, or says why the bytes are refused
 
--- the refusal is this one, or memory ran out
-abbrev pub OrMemory : Outcome → Type 0 → Type 0
-OrMemory refusal Cause = Cause ⊎ (refusal ≡ Memory)
+-- the stage of a layer, whose faults are told as outcomes
+abbrev pub refusing : {S A B : Type 0} → (S → Outcome) → (A → Result B S → Type 0) → A → Result B Outcome → Type 0
+refusing refuse p a (Ok b) = p a (Ok b)
+refusing {S = S} refuse p a (Err refusal) = (fault : S) × p a (Err fault) × (refusal ≡ refuse fault)
 
 -- the bytes are few enough, or one more than may be was met
 abbrev pub fits : List ℕ → Result (List ℕ) Outcome → Type 0
 fits bytes (Ok same) = (same ≡ bytes) × (length bytes ≤ 67108864)
 fits bytes (Err refusal) = (refusal ≡ Limit Bytes 67108865) × (67108864 < length bytes)
 
--- the bundle that the bytes are, whose kernel and input keep their rules, or the first fault
+-- the bundle that the bytes are, whose kernel and input keep their rules
 abbrev pub reads : List ℕ → Result Bundle Outcome → Type 0
-reads bytes (Ok bundle) = IsBundleAnswer bytes (Ok bundle)
-reads bytes (Err refusal) = (fault : InputFault) × IsBundleAnswer bytes (Err fault) × (refusal ≡ refused fault)
+reads = refusing refused IsBundleAnswer
 
--- the numbers are those that the kernel may be given, the arrays are its own, and so is the number of steps
-pub record IsKept (bundle : Bundle) : Type 0 where
-  pub accepted : store.IsAccepted bundle.env bundle.kernel
-  pub arrays : bundle.store.arrays ≡ data_of bundle.env bundle.kernel
-  pub steps : bundle.steps ≡ size bundle.env bundle.kernel.steps
+-- the shape of its loops and arrays, if there are few enough units
+abbrev pub measures : Bundle → Result Shape Outcome → Type 0
+measures = refusing shape_refused (λ bundle. IsShapeAnswer bundle.env bundle.kernel)
 
-abbrev pub units_in : Bundle → ℕ
-units_in bundle = bundle.steps * iterations (loops_of bundle.env bundle.kernel)
+-- what each iteration touches, if nothing is refused on the walk
+abbrev pub walks : Bundle × Shape → Result (List (List Touch)) Outcome → Type 0
+walks = refusing walk_refused (λ given. IsAccessAnswer given.0.env given.0.kernel given.1.steps)
 
--- the units are few enough, or there are so many
-abbrev pub counts_units : Bundle → Result Bundle Outcome → Type 0
-counts_units bundle (Ok same) = (same ≡ bundle) × (units_in bundle ≤ 4194304)
-counts_units bundle (Err refusal) = OrMemory refusal ((refusal ≡ Limit Units (units_in bundle)) × (4194304 < units_in bundle))
+-- the steps of the script, with loops and arrays by their numbers; no partitioner is handed in
+abbrev pub resolves : (Bundle × Shape) × List (List Touch) → Result (List Step) Outcome → Type 0
+resolves = refusing script_refused (λ given. IsResolveAnswer given.0.1 0 given.0.0.script)
 
-abbrev pub first_fault : Bundle → Option walk.Fault
-first_fault bundle = walk.first_fault bundle.env bundle.kernel bundle.steps
+-- the plan that the steps make, if each of them is legal
+abbrev pub plans : ((Bundle × Shape) × List (List Touch)) × List Step → Result Planned Outcome → Type 0
+plans = refusing plan_refused (λ given. IsPlanAnswer given.0.1 given.0.0.1 given.1)
 
-abbrev pub fault_outcome : walk.Fault → Outcome
-fault_outcome (walk.Range loop_no iteration site value) = Range loop_no iteration site value
-fault_outcome (walk.Visits count) = Limit Visits count
+-- the text of the source result, whatever the plan
+abbrev pub executes : (((Bundle × Shape) × List (List Touch)) × List Step) × Planned → Result (List ℕ) Outcome → Type 0
+executes given (Ok text) = text ≡ text_of given.0.0.0.0
+executes given (Err refusal) = refusal ≡ Memory
 
--- nothing is refused on the walk, or this is its first fault
-abbrev pub walks : Bundle → Result Bundle Outcome → Type 0
-walks bundle (Ok same) = (same ≡ bundle) × (first_fault bundle ≡ None)
-walks bundle (Err refusal) = OrMemory refusal ((fault : walk.Fault) × (first_fault bundle ≡ Some fault) × (refusal ≡ fault_outcome fault))
+-- what `run` makes of a bundle of this shape, and of a bundle
+abbrev pub carries_out : Bundle × Shape → Result (List ℕ) Outcome → Type 0
+carries_out = with_given walks then (with_given resolves then (with_given plans then executes))
 
--- both
-abbrev pub checks : Bundle → Result Bundle Outcome → Type 0
-checks = counts_units then walks
-
--- the text of the source result; a script with a step is for later
-abbrev pub executes : Bundle → Result (List ℕ) Outcome → Type 0
-executes bundle (Ok text) = (bundle.script ≡ []) × (text ≡ text_of bundle)
-executes bundle (Err refusal) = OrMemory refusal ((refusal ≡ Later) × ¬ (bundle.script ≡ []))
+abbrev pub compiles : Bundle → Result (List ℕ) Outcome → Type 0
+compiles = with_given measures then carries_out
 
 -- what `run` writes for these bytes, or why it refuses them: the stages in the order of refusals
 unfoldable pub runs : List ℕ → Result (List ℕ) Outcome → Type 0
-runs = fits then (reads then (checks then executes))
+runs = fits then (reads then compiles)
 
 -- ---- the call
 
@@ -91,14 +85,15 @@ AnswersInput bytes before after (Usage word) = ⊤
 AnswersInput bytes before after ReadFault = ⊤
 AnswersInput bytes before after refusal = runs bytes (Err refusal)
 
--- the loop of a range fault has this name
-abbrev pub NamesLoop : Tree → Outcome → List ℕ → Type 0
-NamesLoop tree (Range loop_no iteration site value) name = name ≡ name_at (map (λ (each : Loop). each.name) tree.loops) loop_no
-NamesLoop tree outcome name = ⊤
+-- the outcome is told with the names of loops
+abbrev pub NamesLoops : Outcome → Type 0
+NamesLoops (Range loop_no iteration site value) = ⊤
+NamesLoops (Illegal step p q) = ⊤
+NamesLoops outcome = ⊥
 
--- the same for the bundle that the bytes are
-abbrev pub NamesLoopOf : List ℕ → Outcome → List ℕ → Type 0
-NamesLoopOf bytes outcome name = (bundle : Bundle) → reads bytes (Ok bundle) → NamesLoop bundle.kernel outcome name
+-- where loops are named, these are the loops of the bundle that the bytes are
+abbrev pub HasLoopsOf : List ℕ → Outcome → List LoopShape → Type 0
+HasLoopsOf bytes outcome loops = NamesLoops outcome → (bundle : Bundle) → reads bytes (Ok bundle) → loops ≡ loops_of bundle.env bundle.kernel
 
 -- the outcome is a refusal of the bytes, or memory ran out
 abbrev pub IsOfBytes : Outcome → Type 0

@@ -1,4 +1,5 @@
 pub mod Command
+pub mod Kept
 pub mod Outcome
 pub mod Report
 pub mod Texts

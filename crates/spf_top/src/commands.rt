@@ -5,23 +5,66 @@ ghost use Rattle.spf_io.specs.Stream.{Rose};
 ghost use Rattle.spf_top.specs.Words.{IsAccepted};
 ghost use Rattle.spf_top.specs.Outcome.{line_of};
 ghost use Rattle.spf_top.specs.Report.{AppendsOrFails};
-ghost use Rattle.spf_top.specs.Command.{AnswersWords, AnswersInput, IsOfBytes, IsQuiet, IsDoneOrMemory, NamesLoopOf, runs};
+ghost use Rattle.spf_space.specs.declared.shape.LoopShape.{LoopShape};
+ghost use Rattle.spf_store.specs.Shaped.{IsShapeOf};
+ghost use Rattle.spf_top.specs.Command.{AnswersWords, AnswersInput, HasLoopsOf, IsDoneOrMemory, IsOfBytes, IsQuiet, carries_out, runs};
+ghost use Rattle.spf_top.specs.Kept.{IsKept};
 
 use crate::outcome::{Outcome, What, refusal};
 use crate::report::report;
-use crate::stages::{Ended, check, execute, kept, with_loop_name};
+use crate::stages::{execute, kept, measure, planned, resolved, walk};
 use crate::words::refused_word;
-use spf_input::read_bundle;
+use spf_access::touched_elements_are_cells;
+use spf_input::{Bundle, read_bundle};
 use spf_io::{Failed, ReadAll, Sink, Source, read_all, write_all};
+use spf_plan::one_plan_answer;
+use spf_script::one_resolve_answer;
+use spf_space::Shape;
+use sqlite_items::Items;
 use std::alloc::Global;
 
-/// The outcome, which is in no loop.
-fn without_loop(alloc: Global, outcome: Outcome) -> Ended
+/// How a run ended without a text: its outcome, and the shape by whose loops the line of the outcome names units.
+#[derive(Drop)]
+struct Ended {
+    outcome: Outcome,
+    shape: Shape,
+}
+
+/// The outcome, which names no loop. It takes no memory.
+fn without_loops(alloc: Global, outcome: Outcome) -> Ended
     ensures outcome { result.outcome ≡ outcome }
 {
     Ended {
         outcome,
-        loop_name: Vec::new(alloc),
+        shape: Shape::new(0, Items::new(alloc), Items::new(alloc)),
+    }
+}
+
+/// What `run` writes for a bundle of this shape, or why it refuses it. Linear in the visits and the cells, and what layers,
+/// orders and tests of legality cost.
+fn carry_out(alloc: Global, bundle: Bundle, shape: &Shape) -> Result<Vec<u8>, Outcome>
+    requires kept { IsKept bundle }
+    requires shape { IsShapeOf bundle.env bundle.kernel shape.now }
+    ensures text { IfOk result (λ text. carries_out (bundle, shape.now) (Ok text.items)) }
+    ensures refused { IfErr result (λ refusal. carries_out (bundle, shape.now) (Err refusal)) }
+    ensures of_bytes { IfErr result IsOfBytes }
+{
+    touched_elements_are_cells();
+    let touches = match walk(alloc, &bundle, shape) {
+        Ok(touches) => touches,
+        Err(refusal) => return Err(refusal),
+    };
+    let steps = match resolved(alloc, &bundle, shape) {
+        Ok(steps) => steps,
+        Err(refusal) => return Err(refusal),
+    };
+    let plan = match planned(alloc, shape, &touches, steps.as_slice()) {
+        Ok(plan) => plan,
+        Err(refusal) => return Err(refusal),
+    };
+    match execute(alloc, bundle, shape, &touches, &plan) {
+        Ok(text) => Ok(text),
+        Err(refusal) => Err(refusal),
     }
 }
 
@@ -31,20 +74,20 @@ fn run_text(alloc: Global, bytes: &[u8]) -> Result<Vec<u8>, Ended>
     ensures text { IfOk result (λ text. runs bytes.now (Ok text.items)) }
     ensures refused { IfErr result (λ ended. runs bytes.now (Err ended.outcome)) }
     ensures of_bytes { IfErr result (λ ended. IsOfBytes ended.outcome) }
-    ensures named { IfErr result (λ ended. NamesLoopOf bytes.now ended.outcome ended.loop_name.items) }
+    ensures named { IfErr result (λ ended. HasLoopsOf bytes.now ended.outcome ended.shape.loops) }
 {
     let bundle = match read_bundle(alloc, bytes) {
         Ok(bundle) => bundle,
-        Err(fault) => return Err(without_loop(alloc, refusal(fault))),
+        Err(fault) => return Err(without_loops(alloc, refusal(fault))),
     };
     kept(&bundle);
-    match check(alloc, &bundle) {
-        Ok(()) => {}
-        Err(refusal) => return Err(with_loop_name(alloc, &bundle.kernel, refusal)),
-    }
-    match execute(alloc, bundle) {
+    let shape = match measure(alloc, &bundle) {
+        Ok(shape) => shape,
+        Err(outcome) => return Err(without_loops(alloc, outcome)),
+    };
+    match carry_out(alloc, bundle, &shape) {
         Ok(text) => Ok(text),
-        Err(refusal) => Err(without_loop(alloc, refusal)),
+        Err(outcome) => Err(Ended { outcome, shape }),
     }
 }
 
@@ -52,7 +95,7 @@ fn run_text(alloc: Global, bytes: &[u8]) -> Result<Vec<u8>, Ended>
 fn answer<S: Source, K: Sink>(alloc: Global, words: &[String], source: &mut S, out: &mut K) -> Ended
     ensures words { AnswersWords (map string_bytes words.now) result.outcome }
     ensures input { IfSome (S.held source.old) (λ bytes. AnswersInput bytes (K.written out.old) (K.written out.new) result.outcome) }
-    ensures named { IfSome (S.held source.old) (λ bytes. NamesLoopOf bytes result.outcome result.loop_name.items) }
+    ensures named { IfSome (S.held source.old) (λ bytes. HasLoopsOf bytes result.outcome result.shape.loops) }
     ensures to_the_end { result.outcome ≡ Outcome.Done → IfSome (S.held source.new) (λ rest. rest ≡ []) }
     ensures unread { (word : ℕ) → result.outcome ≡ Outcome.Usage word → source.new ≡ source.old }
     ensures quiet { IsQuiet result.outcome → out.new ≡ out.old }
@@ -60,16 +103,16 @@ fn answer<S: Source, K: Sink>(alloc: Global, words: &[String], source: &mut S, o
     ensures write_fault { result.outcome ≡ Outcome.WriteFault → Rose (K.faults out.old) (K.faults out.new) }
 {
     if let Some(word) = refused_word(words) {
-        return without_loop(alloc, Outcome::Usage { word });
+        return without_loops(alloc, Outcome::Usage { word });
     }
     let bytes = match read_all(alloc, source) {
         Ok(bytes) => bytes,
-        Err(ReadAll::Memory) => return without_loop(alloc, Outcome::Memory),
-        Err(ReadAll::Fault) => return without_loop(alloc, Outcome::ReadFault),
+        Err(ReadAll::Memory) => return without_loops(alloc, Outcome::Memory),
+        Err(ReadAll::Fault) => return without_loops(alloc, Outcome::ReadFault),
         Err(ReadAll::TooLong) => {
             let what = What::Bytes;
             let count = 67_108_865;
-            return without_loop(alloc, Outcome::Limit { what, count });
+            return without_loops(alloc, Outcome::Limit { what, count });
         }
     };
     let text = match run_text(alloc, &bytes) {
@@ -77,8 +120,8 @@ fn answer<S: Source, K: Sink>(alloc: Global, words: &[String], source: &mut S, o
         Err(ended) => return ended,
     };
     match write_all(out, &text) {
-        Ok(()) => without_loop(alloc, Outcome::Done),
-        Err(Failed) => without_loop(alloc, Outcome::WriteFault),
+        Ok(()) => without_loops(alloc, Outcome::Done),
+        Err(Failed) => without_loops(alloc, Outcome::WriteFault),
     }
 }
 
@@ -104,15 +147,17 @@ pub fn command<S: Source, K: Sink, E: Sink>(
     ensures read_fault { result ≡ Outcome.ReadFault → Rose (S.faults source.old) (S.faults source.new) }
     ensures write_fault { result ≡ Outcome.WriteFault → Rose (K.faults out.old) (K.faults out.new) }
 
-    // The line of the outcome, or a front of it where `err` failed. A range fault's loop stands there by its name.
-    ensures line { (name : List ℕ) × IfSome (S.held source.old) (λ bytes. NamesLoopOf bytes result name)
-        × AppendsOrFails (E.written err.old) (E.faults err.old) (line_of name result) (E.written err.new) (E.faults err.new) }
+    // The line of the outcome, or a front of it where `err` failed. Loops stand there by their names.
+    ensures line { (loops : List LoopShape) × IfSome (S.held source.old) (λ bytes. HasLoopsOf bytes result loops)
+        × AppendsOrFails (E.written err.old) (E.faults err.old) (line_of loops result) (E.written err.new) (E.faults err.new) }
 
     // Nothing but want of memory keeps an accepted bundle from its result.
     ensures complete { IsAccepted (map string_bytes words.now) → IfSome (S.held source.old) (λ bytes. (text : List ℕ) → runs bytes (Ok text)
         → ¬ Rose (S.faults source.old) (S.faults source.new) → ¬ Rose (K.faults out.old) (K.faults out.new) → IsDoneOrMemory result) }
 {
+    one_resolve_answer();
+    one_plan_answer();
     let ended = answer(alloc, words, source, out);
-    report(err, &ended.outcome, ended.loop_name.as_slice());
+    report(err, &ended.outcome, &ended.shape);
     ended.outcome
 }

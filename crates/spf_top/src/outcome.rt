@@ -2,11 +2,16 @@
 
 ghost use Rattle.std.specs.Prelude.{◌≡◌};
 ghost use Rattle.spf_top.specs.Command.{IsOfBytes};
-ghost use Rattle.spf_top.specs.Outcome.{refused, status_of};
+ghost use Rattle.spf_top.specs.Outcome.{plan_refused, refused, script_refused, shape_refused, status_of, walk_refused};
 
+use spf_access::AccessFault;
 use spf_base::{Name, Place};
 use spf_input::InputFault;
 use spf_lex::TextKind;
+use spf_plan::PlanFault;
+use spf_script::ScriptFault;
+use spf_space::Unit;
+use spf_store::ShapeFault;
 
 /// What there is too much of.
 #[derive(Clone, Copy, Debug, PartialEq, Eq)]
@@ -17,10 +22,12 @@ pub enum What {
     Units,
     /// The turns of inner loops and the accesses, in all steps together.
     Visits,
+    /// The parts of a tiling.
+    Tiles,
 }
 
 /// How a command ended.
-#[derive(Debug, Drop)]
+#[derive(Drop)]
 pub enum Outcome {
     /// The whole text was written.
     Done,
@@ -57,12 +64,23 @@ pub enum Outcome {
         site: u32,
         value: i64,
     },
+    /// This step of the script, counted from 1, is the first that breaks a rule, and this is the least that it breaks.
+    Script {
+        step: u32,
+        rule: u32,
+    },
+    /// This step of the script, counted from 1, would run `q` before `p`, though they conflict.
+    Illegal {
+        step: u32,
+        p: Unit,
+        q: Unit,
+    },
     /// There is more than may be; this is how much was met.
     Limit {
         what: What,
         count: u64,
     },
-    /// The script has a step, and none is carried out so far.
+    /// The script has a step that isn't carried out so far.
     Later,
 }
 
@@ -76,6 +94,72 @@ pub fn refusal(fault: InputFault) -> Outcome
         InputFault::Kernel { place, rule } => Outcome::Kernel { place, rule },
         InputFault::Input { name, place, rule } => Outcome::Input { name, place, rule },
         InputFault::Memory => Outcome::Memory,
+    }
+}
+
+/// The outcome of a bundle that has too many units.
+pub fn shape_refusal(fault: ShapeFault) -> Outcome
+    ensures refused { result ≡ shape_refused fault }
+    ensures of_bytes { IsOfBytes result }
+{
+    match fault {
+        ShapeFault::Units { count } => Outcome::Limit {
+            what: What::Units,
+            count,
+        },
+        ShapeFault::Memory => Outcome::Memory,
+    }
+}
+
+/// The outcome of a bundle in which something is refused on the walk.
+pub fn walk_refusal(fault: AccessFault) -> Outcome
+    ensures refused { result ≡ walk_refused fault }
+    ensures of_bytes { IsOfBytes result }
+{
+    match fault {
+        AccessFault::Range {
+            loop_no,
+            iteration,
+            site,
+            value,
+        } => Outcome::Range {
+            loop_no,
+            iteration,
+            site,
+            value,
+        },
+        AccessFault::Visits { count } => Outcome::Limit {
+            what: What::Visits,
+            count,
+        },
+        AccessFault::Memory => Outcome::Memory,
+    }
+}
+
+/// The outcome of a script that breaks a rule, or has too many parts.
+pub fn script_refusal(fault: ScriptFault) -> Outcome
+    ensures refused { result ≡ script_refused fault }
+    ensures of_bytes { IsOfBytes result }
+{
+    match fault {
+        ScriptFault::Rule { step, rule } => Outcome::Script { step, rule },
+        ScriptFault::Tiles { count } => Outcome::Limit {
+            what: What::Tiles,
+            count,
+        },
+        ScriptFault::Memory => Outcome::Memory,
+    }
+}
+
+/// The outcome of a script of which a step is refused.
+pub fn plan_refusal(fault: PlanFault) -> Outcome
+    ensures refused { result ≡ plan_refused fault }
+    ensures of_bytes { IsOfBytes result }
+{
+    match fault {
+        PlanFault::Illegal { step, p, q } => Outcome::Illegal { step, p, q },
+        PlanFault::Later { .. } => Outcome::Later,
+        PlanFault::Memory => Outcome::Memory,
     }
 }
 
@@ -93,6 +177,8 @@ pub fn status(outcome: &Outcome) -> u8
         Outcome::Kernel { .. } => 6,
         Outcome::Input { .. } => 7,
         Outcome::Range { .. } => 8,
+        Outcome::Script { .. } => 9,
+        Outcome::Illegal { .. } => 10,
         Outcome::Limit { .. } => 12,
         Outcome::Later => 14,
     }

@@ -1,25 +1,44 @@
 //! The stages of `run` behind the reading of a bundle: each goes on, or answers why the bundle is refused.
 
-ghost use Rattle.std.specs.Prelude.{◌≡◌, ◌⊎◌, ℕ, List, length, map, None, Ok, Err, IfOk, IfErr};
-ghost use Rattle.spf_store.specs.Accepted.{IsAccepted};
-ghost use Rattle.spf_store.specs.FirstFault.{first_fault};
-ghost use Rattle.spf_store.specs.Shaped.{data_of};
-ghost use Rattle.spf_store.specs.Source.{source_result};
-ghost use Rattle.spf_top.specs.Texts.{cell_of};
+ghost use Rattle.std.specs.Prelude.{◌≡◌, ◌<◌, ℕ, List, All, length, None, Ok, IfOk, IfErr, OnOk};
+ghost use Rattle.spf_access.specs.Answer.{IsAccessAnswer};
 ghost use Rattle.spf_input.specs.Answer.{IsBundleAnswer};
-ghost use Rattle.spf_kernel.specs.TreeNames.{name_at};
-ghost use Rattle.spf_top.specs.Command.{IsKept, IsOfBytes, NamesLoop, checks, executes};
+ghost use Rattle.spf_input.specs.declared.reading.Bundle.{Bundle};
+ghost use Rattle.spf_layers.specs.Legality.{IsLegal};
+ghost use Rattle.spf_plan.specs.Planned.{IsPlanOf};
+ghost use Rattle.spf_script.specs.Resolved.{IsStepFor};
+ghost use Rattle.spf_space.specs.Layout.{cells_in, iterations};
+ghost use Rattle.spf_space.specs.Places.{ArePlacesOf, place_of};
+ghost use Rattle.spf_space.specs.Units.{units_of};
+ghost use Rattle.spf_store.specs.Accepted.{IsAccepted};
+ghost use Rattle.spf_store.specs.Accesses.{touches_of};
+ghost use Rattle.spf_store.specs.FirstFault.{first_fault};
+ghost use Rattle.spf_store.specs.Shaped.{IsShapeOf, data_of};
+ghost use Rattle.spf_store.specs.Source.{source_result};
+ghost use Rattle.spf_touch.specs.Frame.{IsTouched};
+ghost use Rattle.spf_touch.specs.Repeated.{touches_at};
+ghost use Rattle.spf_touch.specs.declared.touch.Touch.{Touch};
+ghost use Rattle.spf_top.specs.Command.{IsOfBytes, measures, plans, resolves, walks};
+ghost use Rattle.spf_top.specs.Kept.{IsKept};
+ghost use Rattle.spf_top.specs.Texts.{cell_of, text_of};
 ghost use Rattle.spf_top.specs.declared.outcome.Outcome.TheVariants.{Memory};
 
-use crate::outcome::{Outcome, What};
+use crate::outcome::{Outcome, plan_refusal, script_refusal, shape_refusal, walk_refusal};
 use crate::text::arrays_text;
-use spf_access::{AccessFault, accesses, no_fault_is_in_range};
+use spf_access::{accesses, no_fault_is_in_range, touched_elements_are_cells};
 use spf_base::NoMemory;
 use spf_input::{Bundle, kept_input_is_accepted};
 use spf_kernel::Kernel;
-use spf_source::run_source;
-use spf_store::{ShapeFault, Store, shape};
+use spf_layers::Layers;
+use spf_legal::run_placed;
+use spf_plan::{Plan, plan};
+use spf_script::{Step, resolve};
+use spf_source::{SourceUnits, ascending_units_are_the_source};
+use spf_space::{Places, Shape};
+use spf_store::{Store, shape};
 use spf_term::Env;
+use spf_touch::Touches;
+use sqlite_items::Items;
 use std::alloc::Global;
 
 /// What is known of a bundle that was read, which a caller has by calling this. It does nothing else.
@@ -31,112 +50,130 @@ pub fn kept(bundle: &Bundle)
     let _tree = bundle.kernel.tree();
 }
 
-/// Whether there are few enough units and nothing is refused on the walk. Linear in the visits, and takes what the touch
-/// lists take.
-pub fn check(alloc: Global, bundle: &Bundle) -> Result<(), Outcome>
+/// The shape of a bundle's loops and arrays, if there are few enough units. Linear in the kernel.
+pub fn measure(alloc: Global, bundle: &Bundle) -> Result<Shape, Outcome>
     requires { IsKept bundle.now }
-    ensures passed { IfOk result (λ _. checks bundle.now (Ok bundle.now)) }
-    ensures refused { IfErr result (λ refusal. checks bundle.now (Err refusal)) }
+    ensures answer { measures bundle.now result }
     ensures of_bytes { IfErr result IsOfBytes }
 {
-    let shape = match shape(alloc, &bundle.kernel, &bundle.env) {
-        Ok(shape) => shape,
-        Err(ShapeFault::Units { count }) => {
-            return Err(Outcome::Limit {
-                what: What::Units,
-                count,
-            });
-        }
-        Err(ShapeFault::Memory) => return Err(Outcome::Memory),
-    };
-    match accesses(alloc, &bundle.kernel, &bundle.env, &shape) {
-        Ok(_touches) => Ok(()),
-        Err(
-            AccessFault::Range {
-                loop_no,
-                iteration,
-                site,
-                value,
-            },
-        ) => Err(Outcome::Range {
-            loop_no,
-            iteration,
-            site,
-            value,
-        }),
-        Err(AccessFault::Visits { count }) => Err(Outcome::Limit {
-            what: What::Visits,
-            count,
-        }),
-        Err(AccessFault::Memory) => Err(Outcome::Memory),
+    match shape(alloc, &bundle.kernel, &bundle.env) {
+        Ok(shape) => Ok(shape),
+        Err(fault) => Err(shape_refusal(fault)),
     }
 }
 
-/// Performs the source loops, so many steps; with none the cells stay as they are. Linear in the visits.
-fn run_steps(kernel: &Kernel, env: &Env, store: &mut Store, steps: u32)
+/// What each iteration touches, if nothing is refused on the walk. Linear in the visits.
+pub fn walk(alloc: Global, bundle: &Bundle, shape: &Shape) -> Result<Touches, Outcome>
+    requires kept { IsKept bundle.now }
+    requires shape { IsShapeOf bundle.now.env bundle.now.kernel shape.now }
+    ensures answer { walks (bundle.now, shape.now) result }
+    ensures of_bytes { IfErr result IsOfBytes }
+{
+    match accesses(alloc, &bundle.kernel, &bundle.env, shape) {
+        Ok(touches) => Ok(touches),
+        Err(fault) => Err(walk_refusal(fault)),
+    }
+}
+
+/// The steps of the bundle's script, with loops and arrays by their numbers. Linear in the script's names times the loops
+/// and arrays.
+pub fn resolved(alloc: Global, bundle: &Bundle, shape: &Shape) -> Result<Items<Step>, Outcome>
+    ensures answer { (touches : List (List Touch)) → resolves ((bundle.now, shape.now), touches) result }
+    ensures fitting { IfOk result (All (IsStepFor shape.now 0)) }
+    ensures of_bytes { IfErr result IsOfBytes }
+{
+    match resolve(alloc, &bundle.script, shape, 0) {
+        Ok(steps) => Ok(steps),
+        Err(fault) => Err(script_refusal(fault)),
+    }
+}
+
+/// The plan that the steps make, if each of them is legal. Near-linear in the touches of all steps of the kernel, for each
+/// step of the script.
+pub fn planned(
+    alloc: Global,
+    shape: &Shape,
+    touches: &Touches,
+    steps: &[Step],
+) -> Result<Plan, Outcome>
+    requires lists { length touches.now ≡ iterations shape.now.loops }
+    requires inside { (u e : ℕ) → IsTouched (touches_at touches.now u) e → e < cells_in shape.now.arrays }
+    requires fitting { All (IsStepFor shape.now 0) steps.now }
+    ensures answer { (bundle : Bundle) → plans (((bundle, shape.now), touches.now), steps.now) result }
+    ensures plan { IfOk result (IsPlanOf touches.now shape.now) }
+    ensures of_bytes { IfErr result IsOfBytes }
+{
+    let layers = match Layers::build(alloc, touches, shape) {
+        Ok(layers) => layers,
+        Err(NoMemory) => return Err(Outcome::Memory),
+    };
+    match plan(alloc, &layers, touches, shape, steps) {
+        Ok(plan) => Ok(plan),
+        Err(fault) => Err(plan_refusal(fault)),
+    }
+}
+
+/// Runs all units in the order of their places, which leaves the source result. Linear in the visits, and what ordering the
+/// units costs.
+fn run_units(
+    alloc: Global,
+    kernel: &Kernel,
+    env: &Env,
+    shape: &Shape,
+    touches: &Touches,
+    places: &Places,
+    store: &mut Store,
+) -> Result<(), NoMemory>
     requires accepted { IsAccepted env.now kernel.now }
+    requires shape { IsShapeOf env.now kernel.now shape.now }
+    requires fault { first_fault env.now kernel.now shape.now.steps ≡ None }
+    requires touches { touches.now ≡ touches_of env.now kernel.now shape.now.steps }
     requires arrays { store.old.arrays ≡ data_of env.now kernel.now }
-    requires fault { first_fault env.now kernel.now steps ≡ None }
-    ensures arrays { store.new.arrays ≡ store.old.arrays }
-    ensures count { length store.new.cells ≡ length store.old.cells }
-    ensures cells { (e : ℕ) → cell_of store.new e ≡ source_result env.now kernel.now steps (cell_of store.old) e }
+    requires places { ArePlacesOf shape.now.steps shape.now.loops places.now.tiles places.now.orders }
+    requires legal { IsLegal (touches_at touches.now) (place_of shape.now.steps shape.now.loops places.now.tiles places.now.orders) (length (units_of shape.now.steps shape.now.loops)) }
+    ensures arrays { OnOk result (store.new.arrays ≡ store.old.arrays) }
+    ensures count { OnOk result (length store.new.cells ≡ length store.old.cells) }
+    ensures cells { OnOk result ((e : ℕ) → cell_of store.new e ≡ source_result env.now kernel.now shape.now.steps (cell_of store.old) e) }
 {
     no_fault_is_in_range();
-    if steps > 0 {
-        run_source(kernel, env, store, steps);
-    }
+    touched_elements_are_cells();
+    ascending_units_are_the_source();
+    let _arrays = store.arrays.as_slice();
+    let units = SourceUnits::of(kernel, env, shape, touches);
+    run_placed(alloc, &units, touches, shape, places, store)?;
+    Ok(())
 }
 
-/// Performs the source loops on the bundle's cells, if the script is empty, and gives the text of the arrays. Linear in the
-/// visits and the cells.
-pub fn execute(alloc: Global, mut bundle: Bundle) -> Result<Vec<u8>, Outcome>
+/// Runs a bundle's units as the plan says, and gives the text of the arrays. Linear in the visits and the cells, and what
+/// ordering the units costs.
+pub fn execute(
+    alloc: Global,
+    mut bundle: Bundle,
+    shape: &Shape,
+    touches: &Touches,
+    plan: &Plan,
+) -> Result<Vec<u8>, Outcome>
     requires kept { IsKept bundle }
-    requires checked { checks bundle (Ok bundle) }
-    ensures text { IfOk result (λ text. executes bundle (Ok text.items)) }
-    ensures refused { IfErr result (λ refusal. executes bundle (Err refusal)) }
-    ensures of_bytes { IfErr result IsOfBytes }
+    requires shape { IsShapeOf bundle.env bundle.kernel shape.now }
+    requires walked { IsAccessAnswer bundle.env bundle.kernel shape.now.steps (Ok touches.now) }
+    requires plan { IsPlanOf touches.now shape.now plan.now }
+    ensures text { IfOk result (λ text. text.items ≡ text_of bundle) }
+    ensures refused { IfErr result (λ refusal. refusal ≡ Memory) }
 {
-    if !bundle.script.steps().is_empty() {
-        return Err(Outcome::Later);
+    match run_units(
+        alloc,
+        &bundle.kernel,
+        &bundle.env,
+        shape,
+        touches,
+        plan.places(),
+        &mut bundle.store,
+    ) {
+        Ok(()) => {}
+        Err(NoMemory) => return Err(Outcome::Memory),
     }
-    run_steps(&bundle.kernel, &bundle.env, &mut bundle.store, bundle.steps);
     match arrays_text(alloc, &bundle.store) {
         Ok(text) => Ok(text),
         Err(NoMemory) => Err(Outcome::Memory),
-    }
-}
-
-/// How a run ended without a text: its outcome, and the name of the loop that the line of a range fault names.
-#[derive(Drop)]
-pub struct Ended {
-    pub outcome: Outcome,
-    pub loop_name: Vec<u8>,
-}
-
-/// The name of a loop, and no byte where there is no such loop.
-fn name_of(kernel: &Kernel, loop_no: u32) -> &[u8]
-    ensures { result.now ≡ name_at (map (λ each. each.name) kernel.now.loops) loop_no }
-{
-    match kernel.tree().loops.as_slice().get(loop_no as usize) {
-        Some(each) => each.name.bytes(),
-        None => &[],
-    }
-}
-
-/// The outcome with the name of the loop that it is in, if it is in one.
-pub fn with_loop_name(alloc: Global, kernel: &Kernel, outcome: Outcome) -> Ended
-    ensures outcome { (result.outcome ≡ outcome) ⊎ (result.outcome ≡ Memory) }
-    ensures name { NamesLoop kernel.now result.outcome result.loop_name.items }
-{
-    let name = match outcome {
-        Outcome::Range { loop_no, .. } => name_of(kernel, loop_no),
-        _ => &[],
-    };
-    match Vec::from_slice(alloc, name) {
-        Ok(loop_name) => Ended { outcome, loop_name },
-        Err(_) => Ended {
-            outcome: Outcome::Memory,
-            loop_name: Vec::new(alloc),
-        },
     }
 }

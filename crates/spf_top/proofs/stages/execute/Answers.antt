@@ -1,14 +1,16 @@
-use Rattle.std.proofs.Common.{ap, arith, length, ◌∙◌}
-use Rattle.std.proofs.lemmas.Bool.Decides.{nat_tests}
-use Rattle.spf_top.proofs.Bundles.{no_elements, no_fault, result_text}
+use Rattle.std.proofs.Common.{ℕ, ap, sym, ◌∙◌}
+use Rattle.spf_store.specs.Source.{source_result}
+use Rattle.spf_top.specs.Texts.{cell_of}
+use Rattle.spf_top.proofs.Bundles.{result_text}
 use Rattle.spf_top.proofs.stages.execute.Goals as goal
 
-pub run_steps-requires-clause-fault : goal.run_steps-requires-clause-fault
-run_steps-requires-clause-fault c = no_fault c.args.bundle c.requires.checked
+pub run_units-requires-clause-legal : goal.run_units-requires-clause-legal
+run_units-requires-clause-legal c = rw (c.places.ensures.tiles, c.places.ensures.orders) c.requires.plan.legal
 
-pub returns-in-Ok-clause-text : goal.returns-in-Ok-clause-text
-returns-in-Ok-clause-text c =
-    let ran = c.run_steps.ensures in (
-      no_elements c.args.bundle.script (grind (arith, nat_tests, c.is_empty.ensures, c.if-not-is_empty.false, ap length c.steps.ensures.steps)),
-      c.in-Ok.ensures ∙ result_text c.args.bundle c.run_steps.new.store ran.arrays ran.count ran.cells,
-    )
+pub returns-in-Ok-arrays_text-clause-text : goal.returns-in-Ok-arrays_text-clause-text
+returns-in-Ok-arrays_text-clause-text c =
+    let bundle = c.args.bundle in
+    let ran = c.in-Ok.ensures in
+    let steps = c.requires.shape.steps ∙ sym c.requires.kept.steps in
+    c.in-Ok-arrays_text.ensures
+    ∙ result_text bundle c.run_units.new.store ran.arrays ran.count (λ e. ran.cells e ∙ ap (λ (n : ℕ). source_result bundle.env bundle.kernel n (cell_of bundle.store) e) steps)

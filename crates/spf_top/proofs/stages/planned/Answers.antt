@@ -1,0 +1,12 @@
+use Rattle.std.proofs.Common.{length, ap, ◌∙◌}
+use Rattle.std.proofs.lemmas.List.{length-map}
+use Rattle.std.proofs.lemmas.List.FromFn.{length-range_with_len}
+use Rattle.spf_top.proofs.stages.planned.Goals as goal
+
+pub plan-requires-clause-parts : goal.plan-requires-clause-parts
+plan-requires-clause-parts c = record {
+  lists = c.requires.lists;
+  inside = c.requires.inside;
+  elements = ap length c.in-Ok.ensures.groups ∙ length-map _ _ ∙ length-range_with_len _ _;
+  fits = c.in-Ok.ensures.fits;
+}
