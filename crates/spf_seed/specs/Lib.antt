@@ -1,0 +1,6 @@
+pub mod BreadthFirst
+pub mod Entries
+pub mod Listed
+pub mod Listings
+pub mod Spread
+pub mod View
