@@ -1,0 +1,9 @@
+pub mod Adding
+pub mod Chains
+pub mod Closing
+pub mod Dealing
+pub mod Footed
+pub mod Graph
+pub mod Joins
+pub mod Neighbours
+pub mod Sound
