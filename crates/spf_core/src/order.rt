@@ -1,6 +1,6 @@
 //! Which tiles come before which.
 
-ghost use Rattle.std.specs.Prelude.{◌≡◌, ◌≤◌, ◌<◌, ◌↔◌, ℕ, All, AllPairs, IfOk, IsTrue, false, length, map, slice_index_or, true, vec_items, vec_len};
+ghost use Rattle.std.specs.Prelude.{◌≡◌, ◌≤◌, ◌<◌, ◌↔◌, ℕ, [], All, AllPairs, IfOk, IsTrue, false, length, map, slice_index_or, true, vec_items, vec_len};
 ghost use Rattle.spf_touch.specs.Ordered.{is_in};
 ghost use Rattle.spf_core.specs.History.{is_before};
 
@@ -15,13 +15,14 @@ pub struct Order {
 }
 
 impl Model for Order {
-    ghost use Rattle.std.specs.Prelude.{◌≤◌, ◌<◌, ℕ, All, List, length, map, vec_items};
+    ghost use Rattle.std.specs.Prelude.{◌≤◌, ◌<◌, ℕ, All, AllPairs, List, length, map, vec_items};
 
     ghost Value = { List (List ℕ) };
 
     ghost view = { λ order. map vec_items order.before.items };
 
-    ghost invariant = { λ order. (length order.before.items ≤ 1024) × All (All (λ a. a < length order.before.items)) (map vec_items order.before.items) };
+    ghost invariant = { λ order. (length order.before.items ≤ 1024) × All (All (λ a. a < length order.before.items)) (map vec_items order.before.items)
+        × All (AllPairs (λ (a b : ℕ). a < b)) (map vec_items order.before.items) };
 }
 
 impl Order {
@@ -40,6 +41,15 @@ impl Order {
         ensures { result ≡ length self.now }
     {
         self.before.len() as u32
+    }
+
+    /// The tiles before this one.
+    pub fn tiles_before(&self, tile: u32) -> &[u32]
+        requires { tile < length self.now }
+        ensures tiles { result.now ≡ slice_index_or self.now tile [] }
+        ensures ascending { AllPairs (λ (a b : ℕ). a < b) result.now }
+    {
+        self.before[tile as usize].as_slice()
     }
 
     /// Whether tile a is before tile b. Linear in the tiles before b.

@@ -1,6 +1,6 @@
 //! The order of the tiles.
 
-ghost use Rattle.std.specs.Prelude.{◌≡◌, ◌↔◌, ◌<◌, ◌≤◌, ℕ, All, IfOk, List, length, true};
+ghost use Rattle.std.specs.Prelude.{◌≡◌, ◌↔◌, ◌<◌, ◌≤◌, ℕ, All, AllPairs, IfOk, List, length, true};
 ghost use Rattle.spf_core.specs.History.{is_before};
 ghost use Rattle.spf_layers.specs.Fits.{Fits};
 ghost use Rattle.spf_space.specs.Places.{ArePlacesOf};
@@ -32,6 +32,7 @@ pub fn tile_order(
     requires few { tiles ≤ 1024 }
     requires below { All (λ t. t < tiles) places.now.tiles }
     ensures count { IfOk result (λ order. length order ≡ tiles) }
+    ensures ascending { IfOk result (λ order. All (AllPairs (λ (a b : ℕ). a < b)) order) }
     ensures before { IfOk result (λ order. (touches : ℕ → List Touch) → Fits touches (length (units_of shape.now.steps shape.now.loops)) layers.now →
         (a b : ℕ) → (is_before order a b ≡ true) ↔ Before touches places.now.tiles a b) }
 {
