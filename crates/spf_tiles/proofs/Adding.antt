@@ -1,11 +1,10 @@
 -- What is added one after another.
-use Rattle.std.proofs.Common.{◌≡◌, ℕ, ◌+◌, ◌*◌, ◌<◌, ◌≤◌, ◌⊎◌, ◌↔◌, true, false, Bool, List, [], ◌∷◌, ◌++◌, length, set, get_or, inl, inr, refl, sym, subst, ◌∙◌, arith}
-use Rattle.std.proofs.lemmas.Bool.{cases_eq, cases_lt}
-use Rattle.std.proofs.lemmas.List.{get_or-set_other, get_or-set_same}
+use Rattle.std.proofs.Common.{◌≡◌, ℕ, ◌+◌, ◌<◌, ◌≤◌, ◌⊎◌, ◌↔◌, true, List, [], ◌∷◌, ◌++◌, length, get_or, inl, inr, sym, subst, arith}
+use Rattle.std.proofs.lemmas.Bool.{cases_lt}
 use Rattle.spf_touch.specs.Ordered.{is_in}
 use Rattle.spf_core.proofs.Marks.{in_new, in_old, in_push}
 use Rattle.spf_layers.proofs.Members.{in_at, place_in}
-use Rattle.spf_tiles.specs.Links.{AreAdded}
+use Rattle.spf_tiles.specs.TileSets.{AreAdded}
 
 -- after those of P those of Q, which are these and i
 module _ (P Q : ℕ → Type 0) (i : ℕ) (cases : (k : ℕ) → Q k → P k ⊎ (k ≡ i)) (keep : (k : ℕ) → P k → Q k) (here : Q i) (R : ℕ → Type 0) (Old Mid New : Type 0) where
@@ -41,14 +40,6 @@ kept Mid R there = (λ h. inl h, λ h. elim h [ inl was ↦ was | inr r ↦ ther
 pub is_in_push : (xs : List ℕ) (x n : ℕ) → (is_in (xs ++ x ∷ []) n ≡ true) ↔ ((is_in xs n ≡ true) ⊎ (n ≡ x))
 is_in_push xs x n = (in_push xs x n, λ h. elim h [ inl old' ↦ in_old xs x n old' | inr new' ↦ rw new' (in_new xs x) ])
 
-pub marked_set : (marks : List Bool) (i a : ℕ) → i < length marks → (get_or (set marks i true) a false ≡ true) ↔ ((get_or marks a false ≡ true) ⊎ (a ≡ i))
-marked_set marks i a inside = elim (cases_eq a i) [
-  | inl same ↦ (λ h. inr same, λ h. rw (same, get_or-set_same marks i true false inside) refl)
-  | inr other ↦
-      let was = get_or-set_other marks i a true false other in
-      (λ h. inl (sym was ∙ h), λ h. elim h [ inl old' ↦ was ∙ old' | inr no' ↦ absurd (other no') ])
-]
-
 -- what stands at some place stands in the list
 pub listed : (xs : List ℕ) (i : ℕ) (R : ℕ → Type 0) → length xs ≤ i → i ≤ length xs → ((k : ℕ) × (k < i) × R (get_or xs k 0)) ↔ ((x : ℕ) × (is_in xs x ≡ true) × R x)
 listed xs i R past inside = (
@@ -56,24 +47,11 @@ listed xs i R past inside = (
   λ h. (let at = place_in xs h.0 h.1 in (at.0, omega (arith, at.1), subst R (sym (at.2 0)) h.2)),
 )
 
-pub set_added : (links : List Bool) (i tile c : ℕ) → i ≡ tile * 1024 + c → c < 1024 → i < length links → AreAdded links (set links i true) (λ a d. (d ≡ tile) × (a ≡ c))
-set_added links i tile c at low inside a d less =
-    let one = marked_set links i (d * 1024 + a) inside in (
-      λ h. elim (one.0 h) [ inl was ↦ inl was | inr same ↦ (let e : d ≡ tile = omega arith in inr (e, omega arith)) ],
-      λ h. one.1 (elim h [ inl was ↦ inl was | inr new' ↦ inr (rw (new'.0, new'.1, at) refl) ]),
-    )
-
 pub grown_like : (Old New R S : Type 0) → R ↔ S → New ↔ (Old ⊎ R) → New ↔ (Old ⊎ S)
 grown_like Old New R S same grown = (
   λ h. elim (grown.0 h) [ inl was ↦ inl was | inr r ↦ inr (same.0 r) ],
   λ h. grown.1 (elim h [ inl was ↦ inl was | inr s ↦ inr (same.1 s) ]),
 )
 
-pub added_like : (old new : List Bool) (R S : ℕ → ℕ → Type 0) → ((c d : ℕ) → c < 1024 → R c d ↔ S c d) → AreAdded old new R → AreAdded old new S
+pub added_like : (old new : List ℕ) (R S : ℕ → ℕ → Type 0) → ((c d : ℕ) → c < 1024 → R c d ↔ S c d) → AreAdded old new R → AreAdded old new S
 added_like old new R S same all c d less = grown_like _ _ _ _ (same c d less) (all c d less)
-
-pub listed_is : (xs : List ℕ) (i a : ℕ) → length xs ≤ i → i ≤ length xs → ((k : ℕ) × (k < i) × (a ≡ get_or xs k 0)) ↔ (is_in xs a ≡ true)
-listed_is xs i a past inside = (
-  λ h. (let low = h.1 in rw h.2 (in_at xs h.0 0 (omega arith))),
-  λ h. (let at = place_in xs a h in (at.0, omega (arith, at.1), sym (at.2 0))),
-)

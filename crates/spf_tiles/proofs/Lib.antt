@@ -7,3 +7,4 @@ pub mod Graph
 pub mod Joins
 pub mod Neighbours
 pub mod Sound
+pub mod TileSets

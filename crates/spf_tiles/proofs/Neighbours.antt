@@ -1,5 +1,5 @@
 -- Links between neighbouring groups suffice.
-use Rattle.std.proofs.Common.{◌≡◌, ℕ, zero, suc, ◌+◌, ◌<◌, ◌⊎◌, List, [], length, get_or, inl, inr, ◌∙◌, refl, sym, subst, add-one, arith}
+use Rattle.std.proofs.Common.{◌≡◌, ◌≢◌, ℕ, zero, suc, ◌+◌, ◌<◌, ◌⊎◌, List, [], length, get_or, inl, inr, ◌∙◌, refl, sym, subst, add-one, arith}
 use Rattle.std.proofs.lemmas.Bool.{cases_eq, cases_lt, cases_order}
 use Rattle.std.proofs.lemmas.List.{get_or_past}
 use Rattle.spf_touch.specs.declared.touch.Touch.{Touch}
@@ -17,14 +17,15 @@ element_there layers e p q apart = elim (cases_lt e (length layers)) [
 ]
 
 module _ (touches : ℕ → List Touch) (tiles : List ℕ) (layers : List (List Group)) (fits : Fits touches (length tiles) layers) where
-  abbrev Near : ℕ → ℕ → Type 0
-  Near = LayersLink tiles layers (length layers)
+  -- two tiles with units in neighbouring groups
+  abbrev pub Near : ℕ → ℕ → Type 0
+  Near c d = (c ≢ d) × LayersLink tiles layers (length layers) c d
 
   abbrev tile : ℕ → ℕ
   tile u = get_or tiles u 0
 
   pub near_link : (c d : ℕ) → Near c d → Link touches tiles c d
-  near_link c d (e, there, (n, inside, linked)) =
+  near_link c d (differ, (e, there, (n, inside, linked))) =
       let at = fits.groups e in
       let p = linked.here in
       let q = linked.there in
@@ -33,7 +34,7 @@ module _ (touches : ℕ → List Touch) (tiles : List ℕ) (layers : List (List 
       record {
         first = p.0;
         second = q.0;
-        differ = linked.differ;
+        differ = differ;
         ascend = rise;
         inside = low;
         conflict = (fits.conflicts p.0 q.0 (omega arith) low (λ same. omega arith)).1
@@ -57,7 +58,7 @@ module _ (touches : ℕ → List Touch) (tiles : List ℕ) (layers : List (List 
       | inl same ↦ inl same
       | inr differ ↦ inr (
         0,
-        (e, there, (n, stands_within (element_groups layers e) (n + 1) q next, record { differ = differ; here = (p, here, refl); there = (q, next, refl) })),
+        (differ, (e, there, (n, stands_within (element_groups layers e) (n + 1) q next, record { here = (p, here, refl); there = (q, next, refl) }))),
       )
     ]
 

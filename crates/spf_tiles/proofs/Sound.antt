@@ -2,8 +2,7 @@
 use Rattle.std.proofs.Common.{◌≡◌, ℕ, suc, ◌<◌, ◌⊎◌, true, Some, None, List, [], ◌∷◌, length, AllPairs, inl, inr, refl, sym, ◌∙◌, arith}
 use Rattle.std.proofs.lemmas.Bool.{cases_lt, cases_order, false_from_ne_true}
 use Rattle.std.proofs.lemmas.List.{get_or_past}
-use Rattle.std.specs.Prelude.{◌≢◌, ◌↔◌, IsSome}
-use Rattle.spf_core.specs.History.{is_before}
+use Rattle.std.specs.Prelude.{IsSome}
 use Rattle.spf_core.specs.SoundJob.{IsSound}
 use Rattle.spf_core.specs.Tiling.{Tiling, list_of}
 use Rattle.spf_layers.proofs.Members.{place_in}
@@ -16,7 +15,7 @@ use Rattle.spf_touch.specs.Copy.{class_of, joined}
 use Rattle.spf_touch.specs.Frame.{Behavior, IsTouched, class_at}
 use Rattle.spf_touch.specs.Ordered.{IsLegalOrder, is_in}
 use Rattle.spf_touch.specs.declared.touch.Touch.{Touch}
-use Rattle.spf_tiles.specs.Parts.{ArePlanParts, IsOrderFor}
+use Rattle.spf_tiles.specs.Parts.{ArePlanParts}
 
 pub below_not_back : (p q : Place) → IsBelow p q → IsBelow q p → ⊥
 below_not_back p q h k = grind arith
@@ -48,17 +47,6 @@ toucher touches (u ∷ us) e h = elim (either_touched (class_at (touches u) e) (
   | inl here ↦ (u, in_head u us, here)
   | inr later ↦ let rest = toucher touches us e later in (rest.0, in_tail u us rest.0 rest.1, rest.2)
 ]
-
--- an order that is a relation, which is one for these places
-pub order_from : (touches : ℕ → List Touch) (place : ℕ → Place) (count tiles : ℕ) (Before : ℕ → ℕ → Type 0) (order : List (List ℕ)) → length order ≡ tiles →
-    ((a b : ℕ) → (is_before order a b ≡ true) ↔ Before a b) → ((a b c : ℕ) → Before a b → Before b c → Before a c) → ((a b : ℕ) → Before a b → a < b) →
-    ((p q : ℕ) → p < q → q < count → Conflict (touches p) (touches q) → (place p).tile ≢ (place q).tile → Before (place p).tile (place q).tile) → IsOrderFor touches place count tiles order
-order_from touches place count tiles Before order each is transitive upward linked = record {
-  each_tile = each;
-  transitive = λ a b c h k. (is a c).1 (transitive a b c ((is a b).0 h) ((is b c).0 k));
-  upward = λ a b h. upward a b ((is a b).0 h);
-  linked = λ p q lt inside conflict differ. (is (place p).tile (place q).tile).1 (linked p q lt inside conflict differ);
-}
 
 module _ (units : Behavior) (touches : ℕ → List Touch) (place : ℕ → Place) (tiles : ℕ) (job : Tiling) (parts : ArePlanParts units touches place tiles job) where
   unit_in : (t u : ℕ) → is_in (list_of job t) u ≡ true → (u < units.count) × ((place u).tile ≡ t)

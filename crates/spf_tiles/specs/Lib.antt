@@ -4,4 +4,5 @@ pub mod Joining
 pub mod Links
 pub mod Lists
 pub mod Parts
+pub mod TileSets
 pub mod Turns

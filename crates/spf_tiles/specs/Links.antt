@@ -1,5 +1,5 @@
--- Marks of links between tiles.
-use Rattle.std.specs.Prelude.{◌≡◌, ◌≢◌, ◌↔◌, ℕ, ◌+◌, ◌*◌, ◌<◌, ◌⊎◌, Bool, true, false, List, [], length, slice_index_or}
+-- Links between tiles.
+use Rattle.std.specs.Prelude.{◌≡◌, ℕ, ◌+◌, ◌<◌, ◌⊎◌, true, List, length, slice_index_or}
 use Rattle.spf_touch.specs.Ordered.{is_in}
 use Rattle.spf_touch.specs.declared.touch.Touch.{Touch}
 use Rattle.spf_space.specs.Places.{place_of}
@@ -9,6 +9,7 @@ use Rattle.spf_space.specs.declared.shape.Shape.{Shape}
 use Rattle.spf_layers.specs.Fits.{Fits}
 use Rattle.spf_layers.specs.Groups.{Group, group_at, element_groups}
 use Rattle.spf_layers.specs.Legality.{IsLegal}
+use Rattle.spf_tiles.specs.TileSets.{Has}
 
 -- the places are legal for touches that the layers fit
 pub record AreLegalFor (layers : List (List Group)) (shape : Shape) (places : Places) : Type 0 where
@@ -16,29 +17,18 @@ pub record AreLegalFor (layers : List (List Group)) (shape : Shape) (places : Pl
   pub fits : Fits touches (length (units_of shape.steps shape.loops)) layers
   pub legal : IsLegal touches (place_of shape.steps shape.loops places.tiles places.orders) (length (units_of shape.steps shape.loops))
 
--- there is a mark of a link from c to d: 1024 marks for each tile d
-abbrev pub IsLinked : List Bool → ℕ → ℕ → Type 0
-IsLinked links c d = slice_index_or links (d * 1024 + c) false ≡ true
-
--- marks of these links were added
-abbrev pub AreAdded : List Bool → List Bool → (ℕ → ℕ → Type 0) → Type 0
-AreAdded old new R = (c d : ℕ) → c < 1024 → IsLinked new c d ↔ (IsLinked old c d ⊎ R c d)
-
 -- some of these units is of tile c
 abbrev pub HaveTile : List ℕ → List ℕ → ℕ → Type 0
 HaveTile tiles us c = (u : ℕ) × (is_in us u ≡ true) × (slice_index_or tiles u 0 ≡ c)
 
--- the tiles differ, and stand in these lists
-pub record AreApart (before after : List ℕ) (c d : ℕ) : Type 0 where
-  pub differ : c ≢ d
-  pub here : is_in before c ≡ true
-  pub there : is_in after d ≡ true
-
--- the tiles differ, and have units in these lists
+-- the tiles have units in these lists
 pub record AreLinked (tiles before after : List ℕ) (c d : ℕ) : Type 0 where
-  pub differ : c ≢ d
   pub here : HaveTile tiles before c
   pub there : HaveTile tiles after d
+
+-- tile c has units in the group before the group of this number
+abbrev pub HaveLast : List ℕ → List Group → ℕ → ℕ → Type 0
+HaveLast tiles groups end c = (n : ℕ) × (n + 1 ≡ end) × HaveTile tiles (group_at groups n).units c
 
 -- the tiles have units in neighbouring groups, of which the second one is before the group of this number
 abbrev pub NeighboursLink : List ℕ → List Group → ℕ → ℕ → ℕ → Type 0
@@ -52,14 +42,14 @@ LayersLink tiles layers end c d = (e : ℕ) × (e < end) × NeighboursLink tiles
 abbrev pub AreWithin : ℕ → List Group → Type 0
 AreWithin count groups = (n u : ℕ) → is_in (group_at groups n).units u ≡ true → u < count
 
--- a marked link from a lesser tile to a greater one
-abbrev pub Rises : List Bool → ℕ → ℕ → Type 0
-Rises links c d = (c < d) × (d < 1024) × IsLinked links c d
+-- a link from a lesser tile to a greater one, where row d of the links has the tiles that are linked to tile d
+abbrev pub Rises : List ℕ → ℕ → ℕ → Type 0
+Rises links c d = (c < d) × (d < 1024) × Has links c d
 
 -- tile m is linked to tile b, and tile a is that one or before it
-abbrev pub IsFollowed : List Bool → List (List ℕ) → ℕ → ℕ → ℕ → Type 0
-IsFollowed links before b a m = IsLinked links m b × ((a ≡ m) ⊎ (is_in (slice_index_or before m []) a ≡ true))
+abbrev pub IsFollowed : List ℕ → List ℕ → ℕ → ℕ → ℕ → Type 0
+IsFollowed links before b a m = Has links m b × ((a ≡ m) ⊎ Has before a m)
 
 -- some tile below this one is linked to tile b, and tile a is that one or before it
-abbrev pub IsReached : List Bool → List (List ℕ) → ℕ → ℕ → ℕ → Type 0
+abbrev pub IsReached : List ℕ → List ℕ → ℕ → ℕ → ℕ → Type 0
 IsReached links before b end a = (m : ℕ) × (m < end) × IsFollowed links before b a m

@@ -1,84 +1,90 @@
 //! Which tiles a chain of links leads from.
 
-ghost use Rattle.std.specs.Prelude.{◌≡◌, ◌↔◌, ◌+◌, ◌*◌, ◌<◌, ◌≤◌, ◌⊎◌, ℕ, All, AllPairs, IfOk, false, length, map, replicate, slice_index_or, true, vec_items};
+ghost use Rattle.std.specs.Prelude.{◌≡◌, ◌↔◌, ◌+◌, ◌*◌, ◌<◌, ◌≤◌, ℕ, All, AllPairs, IfOk, length, map, true, vec_items};
 ghost use Rattle.spf_core.specs.History.{is_before};
 ghost use Rattle.spf_tiles.specs.Before.{Leads};
 ghost use Rattle.spf_tiles.specs.Links.{IsReached, Rises};
+ghost use Rattle.spf_tiles.specs.TileSets.{Has};
 ghost use Rattle.spf_touch.specs.Ordered.{is_in};
 
+use crate::tile_sets::{WORDS, contains, insert, unite};
 use spf_base::NoMemory;
 use std::alloc::Global;
 
-fn mark_all(marks: &mut [bool], tiles: &[u32])
-    requires { (t : ℕ) → is_in tiles.now t ≡ true → t < length marks.old }
-    ensures { (a : ℕ) → (slice_index_or marks.new a false ≡ true) ↔ ((slice_index_or marks.old a false ≡ true) ⊎ (is_in tiles.now a ≡ true)) }
+/// The lesser tiles that are linked to this one, and those before them.
+fn reached(links: &[u64], before: &[u64], tile: u32) -> [u64; WORDS]
+    requires few { tile < 1024 }
+    requires links { tile * 16 + 16 ≤ length links.now }
+    requires before { tile * 16 + 16 ≤ length before.now }
+    ensures size { length result ≡ 16 }
+    ensures reached { (a : ℕ) → a < 1024 → Has result a 0 ↔ IsReached links.now before.now tile tile a }
 {
-    for tile in tiles {
-        marks[*tile as usize] = true;
-    }
-}
-
-/// Marks the tiles that are linked to the next one, and those before them.
-fn follow(marks: &mut [bool], links: &[bool], before: &[Vec<u32>])
-    requires size { length marks.old ≡ length before.now }
-    requires few { length before.now < 1024 }
-    requires room { length before.now * 1024 + 1024 ≤ length links.now }
-    requires below { (a b : ℕ) → is_before (map vec_items before.now) a b ≡ true → a < length before.now }
-    ensures { (a : ℕ) → (slice_index_or marks.new a false ≡ true) ↔ ((slice_index_or marks.old a false ≡ true)
-        ⊎ IsReached links.now (map vec_items before.now) (length before.now) (length before.now) a) }
-{
-    let start = before.len() * 1024;
-    for (tile, list) in before.iter().enumerate() {
-        if links[start + tile] {
-            marks[tile] = true;
-            mark_all(marks, list.as_slice());
+    let mut reached = [0u64; WORDS];
+    for other in 0..tile {
+        if contains(links, tile, other) {
+            insert(&mut reached, 0, other);
+            unite(&mut reached, 0, before, other);
         }
     }
+    reached
 }
 
-/// The marks of the tiles before the next one.
-fn reached(alloc: Global, links: &[bool], before: &[Vec<u32>]) -> Result<Vec<bool>, NoMemory>
-    requires few { length before.now < 1024 }
-    requires room { length before.now * 1024 + 1024 ≤ length links.now }
-    requires below { (a b : ℕ) → is_before (map vec_items before.now) a b ≡ true → a < length before.now }
-    ensures size { IfOk result (λ marks. length marks.items ≡ length before.now) }
-    ensures marked { IfOk result (λ marks. (a : ℕ) → (slice_index_or marks.items a false ≡ true)
-        ↔ ((slice_index_or (replicate (length before.now) false) a false ≡ true) ⊎ IsReached links.now (map vec_items before.now) (length before.now) (length before.now) a)) }
+/// Puts into the row of each tile those from which a chain of links leads to it.
+fn chain(before: &mut [u64], links: &[u64], tiles: u32)
+    requires tiles { tiles ≤ 1024 }
+    requires links { length links.now ≡ tiles * 16 }
+    requires before { length before.old ≡ tiles * 16 }
+    requires empty { (a b : ℕ) → Has before.old a b → ⊥ }
+    ensures { (a b : ℕ) → a < 1024 → b < tiles → Has before.new a b ↔ Leads (Rises links.now) a b }
 {
-    let mut marks = vec![in alloc; false; before.len()]?;
-    follow(marks.as_mut_slice(), links, before);
-    Ok(marks)
+    for tile in 0..tiles {
+        let reached = reached(links, before, tile);
+        unite(before, tile, &reached, 0);
+    }
 }
 
-/// The numbers that are marked, ascending.
-fn marked(alloc: Global, marks: &[bool]) -> Result<Vec<u32>, NoMemory>
-    requires few { length marks.now < 1024 }
+/// For each tile the row of those from which a chain of links leads to it.
+fn chained(alloc: Global, links: &[u64], tiles: u32) -> Result<Vec<u64>, NoMemory>
+    requires tiles { tiles ≤ 1024 }
+    requires links { length links.now ≡ tiles * 16 }
+    ensures size { IfOk result (λ before. length before.items ≡ tiles * 16) }
+    ensures chains { IfOk result (λ before. (a b : ℕ) → a < 1024 → b < tiles → Has before.items a b ↔ Leads (Rises links.now) a b) }
+{
+    let mut before = vec![in alloc; 0u64; tiles as usize * WORDS]?;
+    chain(before.as_mut_slice(), links, tiles);
+    Ok(before)
+}
+
+/// The lesser tiles of the tile's row, ascending.
+fn listed(alloc: Global, before: &[u64], tile: u32) -> Result<Vec<u32>, NoMemory>
+    requires few { tile < 1024 }
+    requires room { tile * 16 + 16 ≤ length before.now }
     ensures rising { IfOk result (λ list. AllPairs (λ (a b : ℕ). a < b) list.items) }
-    ensures marked { IfOk result (λ list. (a : ℕ) → (is_in list.items a ≡ true) ↔ (slice_index_or marks.now a false ≡ true)) }
+    ensures listed { IfOk result (λ list. (a : ℕ) → (is_in list.items a ≡ true) ↔ ((a < tile) × Has before.now a tile)) }
 {
     let mut list = Vec::new(alloc);
-    for number in 0..marks.len() as u32 {
-        if marks[number as usize] {
-            list.push(number)?;
+    for other in 0..tile {
+        if contains(before, tile, other) {
+            list.push(other)?;
         }
     }
     Ok(list)
 }
 
 /// For each tile those from which a chain of links leads to it, ascending.
-pub(crate) fn closed(alloc: Global, links: &[bool], tiles: u32) -> Result<Vec<Vec<u32>>, NoMemory>
+pub(crate) fn closed(alloc: Global, links: &[u64], tiles: u32) -> Result<Vec<Vec<u32>>, NoMemory>
     requires tiles { tiles ≤ 1024 }
-    requires room { length links.now ≡ tiles * 1024 }
+    requires room { length links.now ≡ tiles * 16 }
     ensures count { IfOk result (λ lists. length lists.items ≡ tiles) }
     ensures rising { IfOk result (λ lists. All (AllPairs (λ a b. a < b)) (map vec_items lists.items)) }
     ensures below { IfOk result (λ lists. All (All (λ a. a < tiles)) (map vec_items lists.items)) }
     ensures chains { IfOk result (λ lists. (a b : ℕ) → b < tiles →
         (is_before (map vec_items lists.items) a b ≡ true) ↔ Leads (Rises links.now) a b) }
 {
+    let before = chained(alloc, links, tiles)?;
     let mut lists = Vec::with_capacity(alloc, tiles as usize)?;
     for tile in 0..tiles {
-        let marks = reached(alloc, links, lists.as_slice())?;
-        lists.push(marked(alloc, marks.as_slice())?)?;
+        lists.push(listed(alloc, before.as_slice(), tile)?)?;
     }
     Ok(lists)
 }

@@ -17,8 +17,8 @@ use spf_layers::Layers;
 use spf_space::{Places, Shape};
 use std::alloc::Global;
 
-/// Which tiles come before which. Linear in the units of all groups times the tiles that have units in one group, and then
-/// K^3 / 6 steps at most for K tiles. While it works it takes 1,024 bytes for each tile, and the order 4 for each pair.
+/// Which tiles come before which. Linear in the touches, with 16 steps for each tile of each group, and then at most
+/// K^2 / 2 times 16 steps for K tiles. While it works it takes 256 bytes for each tile, and the order 4 for each pair.
 pub fn tile_order(
     alloc: Global,
     layers: &Layers,

@@ -1,4 +1,4 @@
-use Rattle.std.proofs.Common.{◌≡◌, ◌↔◌, ◌<◌, ℕ, true, length, map, vec_items}
+use Rattle.std.proofs.Common.{◌≡◌, ◌↔◌, ◌<◌, ℕ, length, map, true, vec_items}
 use Rattle.std.specs.List.{All, AllPairs}
 use Rattle.spf_core.specs.History.{is_before}
 use Rattle.spf_tiles.specs.Before.{Leads}

@@ -1,11 +1,13 @@
-use Rattle.std.proofs.Common.{◌≤◌, ◌+◌, length}
+use Rattle.std.proofs.Common.{◌≡◌, ◌↔◌, ◌<◌, ℕ, length}
 use Rattle.spf_layers.specs.Groups.{element_groups}
-use Rattle.spf_tiles.specs.Links.{AreAdded, NeighboursLink}
+use Rattle.spf_tiles.specs.Links.{HaveLast, NeighboursLink}
+use Rattle.spf_tiles.specs.TileSets.{AreAdded, Has}
 use Rattle.spf_tiles.proofs.links.link_element.Given as goal
 
--- the groups so far are linked
+-- the groups so far are linked, and the tiles of the last one are the sources
 abbrev pub invariant-loop-n : goal.invariant-loop-n
 invariant-loop-n l = record {
-  far : l.n ≤ length (element_groups l.layers l.element) + 1;
-  added : AreAdded l.initial.links l.links (NeighboursLink l.tile_of (element_groups l.layers l.element) l.n);
+  size : length l.sources ≡ 16;
+  last : (c : ℕ) → c < 1024 → Has l.sources c 0 ↔ HaveLast l.tile_of (element_groups l.layers l.element) l.n c;
+  added : AreAdded l.fn.links l.links (NeighboursLink l.tile_of (element_groups l.layers l.element) l.n);
 }

@@ -1,4 +1,5 @@
-use Rattle.spf_tiles.specs.Links.{AreAdded, LayersLink}
+use Rattle.spf_tiles.specs.Links.{LayersLink}
+use Rattle.spf_tiles.specs.TileSets.{AreAdded}
 use Rattle.spf_tiles.proofs.links.link_elements.Given as goal
 
 -- the elements so far are linked

@@ -25,7 +25,7 @@ returns-clause-before c touches fits =
     let exact : Fits touches (length tiles) layers = subst (λ n. Fits touches n layers) (sym c.requires.places.each_unit) fits in
     rw c.of_lists.ensures
     (order_before touches tiles layers exact c.args.tiles c.requires.few c.requires.below (link_rises steps loops tiles orders c.requires.places touches legal)
-    c.in_ok-links.links.items (c.args.tiles * 1024) (rw c.as_slice.ensures at c.in_ok-links.ensures.links)
+    c.in_ok-links.links.items (c.args.tiles * 16) (rw c.as_slice.ensures at c.in_ok-links.ensures.links)
     (map vec_items lists) (length-map lists vec_items ∙ c.in_ok-before.ensures.count) (rw c.as_slice-2.ensures.value at c.in_ok-before.ensures.chains))
 
 pub returns-clause-ascending : goal.returns-clause-ascending
