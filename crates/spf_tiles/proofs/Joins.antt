@@ -1,15 +1,18 @@
 -- Touches of one element, joined.
-use Rattle.std.proofs.Common.{◌≡◌, ℕ, zero, suc, ◌+◌, ◌-◌, ◌<◌, ◌≤◌, Bool, true, false, ◌||◌, Option, Some, None, List, [], ◌∷◌, ◌++◌, length, get_or, set, take, All, AllPairs, inl, inr, refl, sym, ap, ◌∙◌, eqb, arith}
-use Rattle.std.proofs.lemmas.Bool.{cases_Bool, cases_lt, eq-eqb, eqb-true, ne_eqb}
+use Rattle.std.proofs.Common.{◌≡◌, ℕ, ◌+◌, ◌-◌, ◌<◌, ◌≤◌, Bool, true, false, ◌||◌, Option, Some, None, List, [], ◌∷◌, ◌++◌, length, get_or, set, take, All, AllPairs, inl, inr, refl, sym, ap, ◌∙◌, eqb, arith}
+use Rattle.std.proofs.Math.Bool.{or-false}
+use Rattle.std.proofs.lemmas.Bool.{cases_Bool, cases_lt, eqb-true}
 use Rattle.std.proofs.lemmas.List.{get_or_default, take_more}
 use Rattle.std.proofs.lemmas.List.Folds.{list_any-append}
 use Rattle.std.proofs.lemmas.List.Sorted.{IsPermutation-to_front, list_any-IsPermutation}
 use Rattle.std.specs.List.{flat_map, list_any}
 use Rattle.std.specs.List.Sorted.{IsPermutation}
-use Rattle.std.specs.Prelude.{if◌then◌else◌}
 use Rattle.spf_touch.proofs.Members.{in_head, in_tail}
+use Rattle.spf_touch.proofs.Noted.{noted_at}
+use Rattle.spf_touch.specs.ActionLaw.{class_at-noted}
 use Rattle.spf_touch.specs.Copy.{class_of, joined, together}
 use Rattle.spf_touch.specs.Frame.{IsOnce, class_at}
+use Rattle.spf_touch.specs.Noted.{noted}
 use Rattle.spf_touch.specs.Ordered.{is_in}
 use Rattle.spf_touch.specs.declared.class.Class.{Class}
 use Rattle.spf_touch.specs.declared.class.Class.TheVariants.{Read, Write, Add}
@@ -19,71 +22,13 @@ use Rattle.spf_tiles.specs.Joining.{EndsWith, class_by, class_in, is_same, is_to
 abbrev pub AreRising : List Touch → Type 0
 AreRising ts = AllPairs (λ (a b : Touch). a.element < b.element) ts
 
-later : (t : Touch) (ts : List Touch) → AreRising (t ∷ ts) → AreRising ts
-later t ts rising i j d lt inside = rising (suc i) (suc j) d (omega arith) (omega arith)
-
--- one touch in the place of another of its element
-set_class : (ts : List Touch) (k : ℕ) (x d : Touch) → k < length ts → AreRising ts → (get_or ts k d).element ≡ x.element → (e : ℕ) →
-    class_at (set ts k x) e ≡ (if eqb x.element e then Some x.class else class_at ts e)
-set_class [] k x d inside rising same e = absurd (omega arith)
-set_class (t ∷ ts) zero x d inside rising same e = elim (cases_Bool (eqb x.element e)) [
-  | inl here ↦ rw here refl
-  | inr other ↦ rw (same, other) refl
-]
-set_class (t ∷ ts) (suc k) x d inside rising same e = elim (cases_Bool (eqb t.element e)) [
-  | inl here ↦
-      let lt : t.element < (get_or ts k d).element = rising 0 (suc k) d (omega arith) (omega arith) in
-      rw (here, ne_eqb x.element e (λ is. omega (arith, eqb-true t.element e here))) refl
-  | inr other ↦ rw other (set_class ts k x d (omega arith) (later t ts rising) same e)
-]
-
-class_there : (ts : List Touch) (k : ℕ) (d : Touch) → k < length ts → AreRising ts → class_at ts (get_or ts k d).element ≡ Some (get_or ts k d).class
-class_there [] k d inside rising = absurd (omega arith)
-class_there (t ∷ ts) zero d inside rising = rw (eq-eqb t.element t.element refl) refl
-class_there (t ∷ ts) (suc k) d inside rising =
-    let lt : t.element < (get_or ts k d).element = rising 0 (suc k) d (omega arith) (omega arith) in
-    rw (ne_eqb t.element (get_or ts k d).element (λ is. omega arith)) (class_there ts k d (omega arith) (later t ts rising))
-
-pub join_there : (ts : List Touch) (k e' : ℕ) (c class : Class) (d : Touch) → k < length ts → AreRising ts → (get_or ts k d).element ≡ e' → class ≡ together (get_or ts k d).class c → (e : ℕ) →
-    class_at (set ts k (record { element = e'; class = class })) e ≡ (if eqb e' e then joined (class_at ts e) (Some c) else class_at ts e)
-join_there ts k e' c class d inside rising same is e =
-    let set_to = set_class ts k (record { element = e'; class = class }) d inside rising same e in
-    elim (cases_Bool (eqb e' e)) [
-      | inl here ↦
-          let there : class_at ts e ≡ Some (get_or ts k d).class = rw (same ∙ eqb-true e' e here) at (class_there ts k d inside rising) in
-          rw (here, there, ← is) (rw here at set_to)
-      | inr other ↦ rw other (rw other at set_to)
-    ]
-
-absent : (ts : List Touch) (e : ℕ) → All (λ (o : Touch). o.element < e) ts → class_at ts e ≡ None
-absent [] e all = refl
-absent (t ∷ ts) e all =
-    let lt : t.element < e = all 0 t (omega arith) in
-    rw (ne_eqb t.element e (λ is. omega arith)) (absent ts e (λ k d inside. all (suc k) d (omega arith)))
-
-push_here : (ts : List Touch) (t : Touch) (e : ℕ) → class_at ts e ≡ None → class_at (ts ++ t ∷ []) e ≡ (if eqb t.element e then Some t.class else None)
-push_here [] t e none = refl
-push_here (x ∷ ts) t e none = elim (cases_Bool (eqb x.element e)) [
-  | inl here ↦ let some : Some x.class ≡ None = rw here at none in cc
-  | inr other ↦ rw other (push_here ts t e (rw other at none))
-]
-
-push_other : (ts : List Touch) (t : Touch) (e : ℕ) → eqb t.element e ≡ false → class_at (ts ++ t ∷ []) e ≡ class_at ts e
-push_other [] t e off = rw off refl
-push_other (x ∷ ts) t e off = elim (cases_Bool (eqb x.element e)) [
-  | inl here ↦ rw here refl
-  | inr other ↦ rw other (push_other ts t e off)
-]
-
--- one touch behind those of lesser elements
-pub pushed : (ts : List Touch) (t : Touch) → All (λ (o : Touch). o.element < t.element) ts → (e : ℕ) →
-    class_at (ts ++ t ∷ []) e ≡ (if eqb t.element e then joined (class_at ts e) (Some t.class) else class_at ts e)
-pushed ts t all e = elim (cases_Bool (eqb t.element e)) [
-  | inl here ↦
-      let none : class_at ts e ≡ None = rw (eqb-true t.element e here) at (absent ts t.element all) in
-      rw (here, none) (rw here at (push_here ts t e none))
-  | inr other ↦ rw other (push_other ts t e other)
-]
+-- one touch in the place of the last one, of its element
+pub joins_last : (ts : List Touch) (k e : ℕ) (c class : Class) (d : Touch) → AreRising ts → EndsWith ts e → k ≡ length ts - 1 → class ≡ together (get_or ts k d).class c →
+    set ts k (record { element = e; class = class }) ≡ noted ts e c
+joins_last ts k e c class d rising ends at is =
+    let inside : k < length ts = omega (arith, ends.some) in
+    let last : (d' : Touch) → (get_or ts k d').element ≡ e = λ d'. rw at (ends.last d') in
+    rw is (sym (noted_at ts k e c d inside (λ j d' less same. omega (arith, rising j k d' less inside, last d', same)) (last d)))
 
 pub all_below : (ts : List Touch) (t : Touch) → AreRising ts → All (λ (o : Touch). o.element ≤ t.element) ts → (EndsWith ts t.element → ⊥) → All (λ (o : Touch). o.element < t.element) ts
 all_below ts t rising behind not k d inside = elim (cases_lt k (length ts - 1)) [
@@ -97,40 +42,24 @@ all_below ts t rising behind not k d inside = elim (cases_lt k (length ts - 1)) 
 ]
 
 flags : (c : Class) (r w a : Bool) → class_by (r || (is_same Read c || false)) (w || (is_same Write c || false)) (a || (is_same Add c || false)) ≡ joined (class_by r w a) (Some c)
-flags Read true true true = refl
-flags Read true true false = refl
+flags Read r true a = refl
 flags Read true false true = refl
 flags Read true false false = refl
-flags Read false true true = refl
-flags Read false true false = refl
 flags Read false false true = refl
 flags Read false false false = refl
-flags Write true true true = refl
-flags Write true true false = refl
+flags Write r true a = refl
 flags Write true false true = refl
 flags Write true false false = refl
-flags Write false true true = refl
-flags Write false true false = refl
 flags Write false false true = refl
 flags Write false false false = refl
-flags Add true true true = refl
-flags Add true true false = refl
+flags Add r true a = refl
 flags Add true false true = refl
 flags Add true false false = refl
-flags Add false true true = refl
-flags Add false true false = refl
 flags Add false false true = refl
 flags Add false false false = refl
 
 off : (r w a : Bool) → class_by (r || false) (w || false) (a || false) ≡ class_by r w a
-off true true true = refl
-off true true false = refl
-off true false true = refl
-off true false false = refl
-off false true true = refl
-off false true false = refl
-off false false true = refl
-off false false false = refl
+off r w a = rw (or-false r, or-false w, or-false a) refl
 
 -- one touch more
 module _ (ts : List Touch) (t : Touch) (e : ℕ) where
@@ -184,11 +113,12 @@ gathered_all touches [] e once = refl
 gathered_all touches (u ∷ us) e once =
     gathered (touches u) (flat_map touches us) e (once u (in_head u us)) ∙ ap (joined (class_at (touches u) e)) (gathered_all touches us e (λ v h. once v (in_tail u us v h)))
 
-pub step_joined : (ts foot after : List Touch) (k : ℕ) (d t : Touch) → k < length ts → get_or ts k d ≡ t → ((e : ℕ) → class_at foot e ≡ class_in (take k ts) e) →
-    ((e : ℕ) → class_at after e ≡ (if eqb t.element e then joined (class_at foot e) (Some t.class) else class_at foot e)) → (e : ℕ) → class_at after e ≡ class_in (take (k + 1) ts) e
-step_joined ts foot after k d t inside is old new e =
+pub step_joined : (ts foot : List Touch) (k : ℕ) (d t : Touch) → k < length ts → get_or ts k d ≡ t → ((e : ℕ) → class_at foot e ≡ class_in (take k ts) e) →
+    (e : ℕ) → class_at (noted foot t.element t.class) e ≡ class_in (take (k + 1) ts) e
+step_joined ts foot k d t inside is old e =
     let more : take (k + 1) ts ≡ take k ts ++ t ∷ [] = take_more ts k d inside ∙ ap (λ x. take k ts ++ x ∷ []) is in
+    let new = class_at-noted foot t.element t.class e in
     elim (cases_Bool (eqb t.element e)) [
-      | inl here ↦ (rw here at (new e)) ∙ ap (λ x. joined x (Some t.class)) (old e) ∙ sym (more_here (take k ts) t e here) ∙ ap (λ l. class_in l e) (sym more)
-      | inr other ↦ (rw other at (new e)) ∙ old e ∙ sym (more_other (take k ts) t e other) ∙ ap (λ l. class_in l e) (sym more)
+      | inl here ↦ (rw here at new) ∙ ap (λ x. joined x (Some t.class)) (old e) ∙ sym (more_here (take k ts) t e here) ∙ ap (λ l. class_in l e) (sym more)
+      | inr other ↦ (rw other at new) ∙ old e ∙ sym (more_other (take k ts) t e other) ∙ ap (λ l. class_in l e) (sym more)
     ]

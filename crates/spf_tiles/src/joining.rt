@@ -1,9 +1,10 @@
 //! Touches of one element, joined.
 
-ghost use Rattle.std.specs.Prelude.{◌≡◌, ◌<◌, ◌≤◌, ◌==◌, ◌↔◌, ℕ, All, AllPairs, IfOk, IsTrue, OnOk, Some, if◌then◌else◌};
+ghost use Rattle.std.specs.Prelude.{◌≡◌, ◌<◌, ◌≤◌, ◌↔◌, ℕ, All, AllPairs, IfOk, IsTrue, OnOk};
 ghost use Rattle.std.specs.List.Sorted.{IsNonDecreasingBy};
-ghost use Rattle.spf_touch.specs.Copy.{joined, together};
+ghost use Rattle.spf_touch.specs.Copy.{together};
 ghost use Rattle.spf_touch.specs.Frame.{class_at};
+ghost use Rattle.spf_touch.specs.Noted.{noted};
 ghost use Rattle.spf_tiles.specs.Joining.{EndsWith, class_in};
 
 use spf_base::NoMemory;
@@ -32,8 +33,7 @@ fn add(foot: &mut Vec<Touch>, touch: Touch) -> Result<(), NoMemory>
     requires behind { All (λ (other : Touch). other.element ≤ touch.element) foot.old.items }
     ensures rising { OnOk result (AllPairs (λ a b. a.element < b.element) foot.new.items) }
     ensures behind { OnOk result (All (λ (other : Touch). other.element ≤ touch.element) foot.new.items) }
-    ensures classes { OnOk result ((e : ℕ) → class_at foot.new.items e
-        ≡ (if touch.element == e then joined (class_at foot.old.items e) (Some touch.class) else class_at foot.old.items e)) }
+    ensures noted { OnOk result (foot.new.items ≡ noted foot.old.items touch.element touch.class) }
 {
     if ends_with(foot.as_slice(), touch.element) {
         let last = foot.len() - 1;

@@ -22,5 +22,5 @@ loop-touch-preserved c =
           let mine : (get_or c.add.new.foot.items i d').element ≤ (get_or ts k none).element = c.in_ok-add.ensures.behind i d' there in
           let same : (get_or ts k none).element ≤ (get_or ts k d).element = rw (get_or_default ts k none d c.loop-touch-test.true) (omega arith) in
           omega (arith, last, mine, same);
-      classes = step_joined ts c.loop-touch.foot.items c.add.new.foot.items k none (get_or ts k none) c.loop-touch-test.true refl c.loop-touch.invariant.classes c.in_ok-add.ensures.classes;
+      classes = rw c.in_ok-add.ensures.noted (step_joined ts c.loop-touch.foot.items k none (get_or ts k none) c.loop-touch-test.true refl c.loop-touch.invariant.classes);
     }
