@@ -21,7 +21,7 @@ pub record AreLegalFor (layers : List (List Group)) (shape : Shape) (places : Pl
 abbrev pub HaveTile : List ℕ → List ℕ → ℕ → Type 0
 HaveTile tiles us c = (u : ℕ) × (is_in us u ≡ true) × (slice_index_or tiles u 0 ≡ c)
 
--- the tiles have units in these lists
+-- tile c has units in the first list, and tile d in the second
 pub record AreLinked (tiles before after : List ℕ) (c d : ℕ) : Type 0 where
   pub here : HaveTile tiles before c
   pub there : HaveTile tiles after d
