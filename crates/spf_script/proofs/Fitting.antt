@@ -1,14 +1,16 @@
 -- The numbers of a step that breaks no rule are such as the shape and the partitioners have.
-use Rattle.std.proofs.Common.{◌≡◌, ℕ, zero, suc, ◌+◌, ◌<◌, ◌≤◌, Bool, true, false, not, ◌&&◌, List, [], ◌∷◌, length, map, take, get_or, slice_get, None, Some, All, arith, refl, subst}
+use Rattle.std.proofs.Common.{◌≡◌, ℕ, zero, suc, ◌+◌, ◌<◌, ◌≤◌, Bool, true, false, not, ◌&&◌, List, [], ◌∷◌, length, map, take, get_or, slice_get, None, Some, All, arith, refl, sym, ap, ◌∙◌, subst}
 use Rattle.std.specs.List.{AllByRecursion, list_all, list_any, position_from}
 use Rattle.std.proofs.lemmas.Bool.Decides.{nat_tests}
+use Rattle.std.proofs.lemmas.List.{get_or-map, get_or-take, length-map, length-take}
+use Rattle.std.proofs.lemmas.List.Folds.{list_any_at}
 use Rattle.std.proofs.lemmas.Option.{slice_get-get_or}
 use Rattle.spf_space.specs.declared.shape.ArrayShape.{ArrayShape}
 use Rattle.spf_space.specs.declared.shape.LoopShape.{LoopShape}
 use Rattle.spf_space.specs.declared.shape.Shape.{Shape}
 use Rattle.std.specs.Str.{bytes_eq}
-use Rattle.spf_script.specs.Resolved.{IsSeedFor, IsStepFor, IsWellFormed, array_number, loop_number, most_parts, parts_in, resolved, resolved_seed}
-use Rattle.spf_script.specs.Rules.{broken_rules, is_array, is_behind_tile, is_empty, is_foreign, is_late, is_loop, is_misnamed, is_tile, least_rule}
+use Rattle.spf_script.specs.Resolved.{IsSeedFor, IsStepFor, IsWellFormed, TilesOnce, array_number, is_tiling, loop_number, most_parts, parts_in, resolved, resolved_seed}
+use Rattle.spf_script.specs.Rules.{broken_rules, is_array, is_behind_tile, is_empty, is_foreign, is_late, is_loop, is_misnamed, is_tile, is_tilepack, least_rule}
 use Rattle.spf_script.specs.declared.step.TextSeed.{TextSeed}
 use Rattle.spf_script.specs.declared.step.TextSeed.TheVariants.{Block, Spread, Plug}
 use Rattle.spf_script.specs.declared.step.TextStep.{TextStep}
@@ -105,3 +107,31 @@ pub steps_fit : (shape : Shape) (plugs : ℕ) (script : List TextStep) → IsWel
 steps_fit shape plugs script well few = λ place other within.
     let there = slice_get-get_or script place other within in
     fits_at shape plugs script place (get_or script place other) there few (keeps shape plugs script place (get_or script place other) there (well place))
+
+tiling_is_tile : (shape : Shape) (step : TextStep) → is_tiling (resolved shape step) ≡ is_tile step
+tiling_is_tile shape (Cpack arrays by) = refl
+tiling_is_tile shape (LexGroup of by) = refl
+tiling_is_tile shape (LexSort of by) = refl
+tiling_is_tile shape (Bucket of by size) = refl
+tiling_is_tile shape (Tile of at seed parts) = refl
+tiling_is_tile shape (TilePack arrays) = refl
+
+tilepack_is_no_tile : (step : TextStep) → (not (is_tilepack step) && true) ≡ false → is_tile step ≡ false
+tilepack_is_no_tile (Tile of at seed parts) e = cc
+tilepack_is_no_tile (Cpack arrays by) e = refl
+tilepack_is_no_tile (LexGroup of by) e = refl
+tilepack_is_no_tile (LexSort of by) e = refl
+tilepack_is_no_tile (Bucket of by size) e = refl
+tilepack_is_no_tile (TilePack arrays) e = refl
+
+-- by rule 7 no tiling stands behind another one
+pub tiles_once : (shape : Shape) (plugs : ℕ) (script : List TextStep) → IsWellFormed shape plugs script → TilesOnce (map (resolved shape) script)
+tiles_once shape plugs script well i j d lt within tiling =
+    let inside : j < length script = rw length-map at within in
+    let first = get_or script i (TilePack []) in
+    let second = get_or script j (TilePack []) in
+    let one : is_tile first ≡ true = sym (ap is_tiling (get_or-map (resolved shape) script i (TilePack []) d (omega (arith, lt, inside))) ∙ tiling_is_tile shape first) ∙ tiling in
+    let any : list_any is_tile (take j script) ≡ true =
+    list_any_at is_tile (take j script) i (TilePack []) (omega (arith, lt, inside, length-take j script)) (ap is_tile (get_or-take j script i (TilePack []) lt) ∙ one) in
+    let kept = (keeps shape plugs script j second (slice_get-get_or script j (TilePack []) inside) (well j)).first in
+    ap is_tiling (get_or-map (resolved shape) script j (TilePack []) d inside) ∙ (tiling_is_tile shape second ∙ tilepack_is_no_tile second (rw any at kept))

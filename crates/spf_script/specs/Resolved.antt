@@ -1,5 +1,5 @@
 -- What resolving a script for a shape answers.
-use Rattle.std.specs.Prelude.{ℕ, ◌≡◌, ◌+◌, ◌≤◌, ◌<◌, ⊤, List, [], ◌∷◌, map, length, None, Some, Result, Ok, Err, All}
+use Rattle.std.specs.Prelude.{ℕ, ◌≡◌, ◌+◌, ◌≤◌, ◌<◌, ⊤, Bool, true, false, List, [], ◌∷◌, map, length, None, Some, Result, Ok, Err, All, AllPairs}
 use Rattle.std.specs.List.{position_or_len}
 use Rattle.std.specs.Str.{bytes_eq}
 use Rattle.spf_space.specs.declared.shape.ArrayShape.{ArrayShape}
@@ -112,3 +112,12 @@ module _ (shape : Shape) (plugs : ℕ) where
   IsStepFor (Bucket of by size) = IsLoop of × IsArray by × (1 ≤ size)
   IsStepFor (Tile of at seed parts) = IsLoop of × (at < shape.steps) × IsSeedFor plugs seed × (1 ≤ parts) × (parts ≤ most_parts)
   IsStepFor (TilePack arrays) = All IsArray arrays
+
+-- whether the step is a tiling
+abbrev pub is_tiling : Step → Bool
+is_tiling (Tile of at seed parts) = true
+is_tiling _ = false
+
+-- no tiling comes after another one
+abbrev pub TilesOnce : List Step → Type 0
+TilesOnce steps = AllPairs (λ (a b : Step). is_tiling a ≡ true → is_tiling b ≡ false) steps

@@ -3,7 +3,7 @@
 ghost use Rattle.std.specs.Prelude.{◌≡◌, ◌<◌, ◌⊎◌, ℕ, List, Result, Err, map, position, IfOk, All};
 ghost use Rattle.std.specs.Str.{bytes_eq};
 ghost use Rattle.spf_space.specs.declared.shape.Shape.{Shape};
-ghost use Rattle.spf_script.specs.Resolved.{IsResolveAnswer, IsSeedFor, IsStepFor, TestsRules, array_number, loop_number, parts_in, resolved, resolved_seed};
+ghost use Rattle.spf_script.specs.Resolved.{IsResolveAnswer, IsSeedFor, IsStepFor, TestsRules, TilesOnce, array_number, loop_number, parts_in, resolved, resolved_seed};
 ghost use Rattle.spf_script.specs.declared.resolving.ScriptFault.{ScriptFault};
 ghost use Rattle.spf_script.specs.declared.resolving.ScriptFault.TheVariants.{Memory};
 ghost use Rattle.spf_script.specs.declared.resolved.Step.{Step};
@@ -210,6 +210,7 @@ pub fn resolve(
 ) -> Result<Items<Step>, ScriptFault>
     ensures answer { IsResolveAnswer shape.now plugs script.now result }
     ensures fitting { IfOk result (All (IsStepFor shape.now plugs)) }
+    ensures once { IfOk result TilesOnce }
 {
     let steps = script.steps();
     test_rules(steps, shape, plugs)?;
