@@ -3,3 +3,5 @@ pub mod Copies
 pub mod OnePlan
 pub mod Reordering
 pub mod Sources
+pub mod Tilings
+pub mod Views

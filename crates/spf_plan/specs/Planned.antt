@@ -1,7 +1,7 @@
 -- Plans: where units are run, how arrays are packed, and what was moved from its source place.
-use Rattle.std.specs.Prelude.{ℕ, ◌≡◌, ◌≤◌, ◌<◌, Bool, true, false, List, [], All, length, map, replicate, slice_get, slice_index_or, slice_set, Some}
-use Rattle.std.specs.List.{range_with_len}
-use Rattle.spf_perm.specs.Perm.{IsPerm}
+use Rattle.std.specs.Prelude.{ℕ, ◌≡◌, ◌≤◌, ◌<◌, nat_eq, Bool, true, false, List, [], All, length, map, replicate, slice_get, slice_index_or, slice_set, Some}
+use Rattle.std.specs.List.{position_or_len, range_with_len}
+use Rattle.spf_perm.specs.Perm.{at, IsPerm}
 use Rattle.spf_touch.specs.Repeated.{touches_at}
 use Rattle.spf_touch.specs.declared.touch.Touch.{Touch}
 use Rattle.spf_space.specs.Places.{ArePlacesOf, place_of}
@@ -24,6 +24,14 @@ pub record Planned : Type 0 where
 -- the packed place of each place of an array
 abbrev pub pack_of : Planned → ℕ → List ℕ
 pack_of plan array = slice_index_or plan.packs array []
+
+-- the source position that stands at a position of a loop's order
+abbrev pub iteration_at : List ℕ → ℕ → ℕ
+iteration_at order position = position_or_len (nat_eq position) order
+
+-- the parts of a loop's source positions, where the list has those of the positions of its order
+abbrev pub by_iteration : List ℕ → List ℕ → List ℕ
+by_iteration order list = map (at list) order
 
 -- how many units there are
 abbrev pub units_in : Shape → ℕ
@@ -73,3 +81,7 @@ source_plan shape = record {
 -- the plan with this order of a loop, which is marked as moved
 abbrev pub reordered : ℕ → List ℕ → Planned → Planned
 reordered of order plan = record plan { orders = slice_set plan.orders of order; moved_loops = slice_set plan.moved_loops of true }
+
+-- the plan with these tiles, so many
+abbrev pub tiled : List ℕ → ℕ → Planned → Planned
+tiled tiles parts plan = record plan { tiles = tiles; count = parts }

@@ -10,6 +10,7 @@ use Rattle.spf_space.specs.Places.{order_of, place_of}
 use Rattle.spf_space.specs.Units.{units_of}
 use Rattle.spf_space.specs.declared.shape.Shape.{Shape}
 use Rattle.spf_space.specs.declared.unit.Unit.{Unit}
+use Rattle.spf_script.specs.declared.resolved.Seed.{Seed}
 use Rattle.spf_script.specs.declared.resolved.Step.{Step}
 use Rattle.spf_script.specs.declared.resolved.Step.TheVariants.{Cpack, LexGroup, LexSort, Bucket, Tile, TilePack}
 use Rattle.spf_layers.specs.Fits.{Fits}
@@ -17,7 +18,9 @@ use Rattle.spf_layers.specs.Groups.{Group}
 use Rattle.spf_layers.specs.Legality.{IsFirstPair, IsReversed}
 use Rattle.spf_group.specs.Keys.{bucket_key, group_key, places_at, sort_key}
 use Rattle.spf_group.specs.Ordered.{IsOrderedBy}
-use Rattle.spf_plan.specs.Planned.{AreLegal, Planned, pack_of, reordered, source_plan, units_in}
+use Rattle.spf_grow.specs.Growth.{Falls, IsGrown, first_unit}
+use Rattle.spf_plan.specs.Planned.{AreLegal, Planned, by_iteration, pack_of, reordered, source_plan, tiled, units_in}
+use Rattle.spf_plan.specs.Seeded.{IsSeedOf}
 use Rattle.spf_plan.specs.declared.plan_fault.PlanFault.{PlanFault}
 use Rattle.spf_plan.specs.declared.plan_fault.PlanFault.TheVariants.{Illegal, Later, Memory}
 
@@ -28,14 +31,18 @@ pub record BelongTogether (layers : List (List Group)) (touches : List (List Tou
   pub elements : length layers ≡ cells_in shape.arrays
   pub fits : Fits (touches_at touches) (units_in shape) layers
 
+-- the units of the first pair of ordinals in a relation
+pub record AreFirst (R : ℕ → ℕ → Type 0) (shape : Shape) (p q : Unit) : Type 0 where
+  pub earlier : ℕ
+  pub later : ℕ
+  pub first : IsFirstPair R earlier later
+  pub earlier_is : slice_get (units_of shape.steps shape.loops) earlier ≡ Some p
+  pub later_is : slice_get (units_of shape.steps shape.loops) later ≡ Some q
+
 module _ (touches : List (List Touch)) (shape : Shape) where
   -- of the conflicting units that these tiles and orders reverse, the first two
-  pub record AreFirstReversed (tiles : List ℕ) (orders : List (List ℕ)) (p q : Unit) : Type 0 where
-    pub earlier : ℕ
-    pub later : ℕ
-    pub first : IsFirstPair (IsReversed (touches_at touches) (place_of shape.steps shape.loops tiles orders) (units_in shape)) earlier later
-    pub earlier_is : slice_get (units_of shape.steps shape.loops) earlier ≡ Some p
-    pub later_is : slice_get (units_of shape.steps shape.loops) later ≡ Some q
+  abbrev pub AreFirstReversed : List ℕ → List (List ℕ) → Unit → Unit → Type 0
+  AreFirstReversed tiles orders = AreFirst (IsReversed (touches_at touches) (place_of shape.steps shape.loops tiles orders) (units_in shape)) shape
 
   -- a loop is given another order where that is legal, and the orders are else as before
   abbrev pub TriesOrder : List ℕ → List (List ℕ) → ℕ → List ℕ → Result (Option (Unit × Unit)) NoMemory → List (List ℕ) → Type 0
@@ -50,6 +57,32 @@ module _ (touches : List (List Touch)) (shape : Shape) (number : ℕ) where
   Reorders of order plan (Err (Illegal step p q)) after = (after ≡ plan) × (step ≡ number) × AreFirstReversed touches shape plan.tiles (slice_set plan.orders of order) p q
   Reorders of order plan (Err (Later step)) after = ⊥
   Reorders of order plan (Err Memory) after = after ≡ plan
+
+-- the loop, the step, the seed and the number of parts of a tiling, and the order of the loop
+module _ (touches : List (List Touch)) (shape : Shape) (of step : ℕ) (seed : Seed) (parts : ℕ) (order : List ℕ) where
+  -- the tiles grow from the seed
+  pub record AreGrown (tiles : List ℕ) : Type 0 where
+    pub list : List ℕ
+    pub seeded : IsSeedOf touches shape of order seed parts list
+    pub grown : IsGrown (touches_at touches) (units_in shape) (first_unit shape.loops step of) (by_iteration order list) parts tiles
+
+  -- of the conflicting units of the loop at the step along which the seed falls, the first two
+  pub record AreFirstFallen (p q : Unit) : Type 0 where
+    pub list : List ℕ
+    pub seeded : IsSeedOf touches shape of order seed parts list
+    pub first : AreFirst (Falls (touches_at touches) (first_unit shape.loops step of) (by_iteration order list)) shape p q
+
+  -- why the step with this number gives no tiles; out of memory is free
+  abbrev pub IsTileFault : ℕ → PlanFault → Type 0
+  IsTileFault number (Illegal n p q) = (n ≡ number) × AreFirstFallen p q
+  IsTileFault number (Later n) = ⊥
+  IsTileFault number Memory = ⊤
+
+module _ (touches : List (List Touch)) (shape : Shape) (number : ℕ) where
+  -- the plan with the tiles that grow from the seed, and where it falls the plan as before
+  abbrev pub TakesTile : ℕ → ℕ → Seed → ℕ → Planned → Result ⊤ PlanFault → Planned → Type 0
+  TakesTile of step seed parts plan (Ok done) after = AreGrown touches shape of step seed parts (order_of plan.orders of) after.tiles × (after ≡ tiled after.tiles parts plan)
+  TakesTile of step seed parts plan (Err fault) after = IsTileFault touches shape of step seed parts (order_of plan.orders of) number fault × (after ≡ plan)
 
 -- the list is the stable order by these keys on an old order
 pub record IsNewOrder (key : ℕ → List ℕ) (old new : List ℕ) : Type 0 where
@@ -77,7 +110,7 @@ module _ (touches : List (List Touch)) (shape : Shape) (number : ℕ) (plan : Pl
   Takes (LexGroup of by) = TakesOrder of (λ position. group_key (packed_places touches shape plan of by position))
   Takes (LexSort of by) = TakesOrder of (λ position. sort_key (packed_places touches shape plan of by position))
   Takes (Bucket of by size) = TakesOrder of (λ position. bucket_key size (packed_places touches shape plan of by position))
-  Takes (Tile of step seed parts) = TakesLater
+  Takes (Tile of step seed parts) = TakesTile touches shape number of step seed parts plan result after
   Takes (TilePack arrays) = TakesLater
 
 module _ (touches : List (List Touch)) (shape : Shape) where

@@ -10,6 +10,8 @@ ghost use Rattle.spf_plan.specs.declared.plan_fault.PlanFault.{PlanFault};
 ghost use Rattle.spf_plan.specs.declared.plan_fault.PlanFault.TheVariants.{Memory};
 
 use spf_group::one_order;
+use spf_grow::one_growth;
+use spf_seed::one_breadth_first_order;
 
 /// Law: the steps have one answer, but for out of memory.
 pub fn one_plan_answer()
@@ -17,4 +19,6 @@ pub fn one_plan_answer()
         IsPlanAnswer touches shape steps a → IsPlanAnswer touches shape steps b → (a ≡ b) ⊎ ((a ≡ Err Memory) ⊎ (b ≡ Err Memory)) }
 {
     one_order();
+    one_growth();
+    one_breadth_first_order();
 }

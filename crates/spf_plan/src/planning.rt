@@ -1,7 +1,7 @@
 //! Taking a list of steps.
 
 ghost use Rattle.std.specs.Prelude.{◌≡◌, ◌+◌, All, IfOk};
-ghost use Rattle.spf_script.specs.Resolved.{IsStepFor};
+ghost use Rattle.spf_script.specs.Resolved.{IsStepFor, TilesOnce};
 ghost use Rattle.spf_plan.specs.Planned.{IsPlanOf};
 ghost use Rattle.spf_plan.specs.Taken.{BelongTogether, IsPlanAnswer};
 
@@ -34,6 +34,7 @@ pub fn plan(
 ) -> Result<Plan, PlanFault>
     requires parts { BelongTogether layers.now touches.now shape.now }
     requires steps { All (IsStepFor shape.now 0) steps.now }
+    requires once { TilesOnce steps.now }
     ensures answer { IsPlanAnswer touches.now shape.now steps.now result }
     ensures plan { IfOk result (IsPlanOf touches.now shape.now) }
 {

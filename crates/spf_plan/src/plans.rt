@@ -1,15 +1,20 @@
 //! Plans, and taking a step.
 
-ghost use Rattle.std.specs.Prelude.{◌≡◌, ◌<◌, IfOk, OnErr, Some, length, slice_get};
+ghost use Rattle.std.specs.Prelude.{◌≡◌, ◌<◌, ℕ, true, IfOk, OnErr, Some, length, slice_get};
 ghost use Rattle.spf_perm.specs.Perm.{IsPerm};
-ghost use Rattle.spf_script.specs.Resolved.{IsStepFor};
+ghost use Rattle.spf_touch.specs.Frame.{IsTouched};
+ghost use Rattle.spf_touch.specs.Repeated.{touches_at};
+ghost use Rattle.spf_script.specs.Resolved.{IsStepFor, is_tiling};
+ghost use Rattle.spf_script.specs.declared.resolved.Step.TheVariants.{Tile};
+ghost use Rattle.spf_space.specs.Layout.{cells_in, iterations};
 ghost use Rattle.spf_space.specs.Places.{order_of};
 ghost use Rattle.spf_plan.specs.Planned.{IsPlanOf, pack_of, source_plan};
-ghost use Rattle.spf_plan.specs.Taken.{BelongTogether, Reorders, Takes};
+ghost use Rattle.spf_plan.specs.Taken.{BelongTogether, Reorders, Takes, TakesTile};
 
 use crate::plan_fault::PlanFault;
 use crate::reorder::try_order;
 use crate::source::{own_places, source_orders};
+use crate::tiling::{Tiling, grown_tiles};
 use spf_base::NoMemory;
 use spf_group::{bucket, lexgroup, lexsort};
 use spf_layers::Layers;
@@ -78,7 +83,9 @@ impl Plan {
     }
 
     /// Takes the step of this number, counted from 1. After a refusal, and for want of memory, the plan is as before. An order
-    /// costs a sort of the loop's positions, a copy of its old order, and a pass over the touches of all units.
+    /// costs a sort of the loop's positions, a copy of its old order, and a pass over the touches of all units. A tiling costs
+    /// its seed, which for `spread` sorts the touches of the loop, and two passes over the touches of all units; a seed that
+    /// sees 2^32 elements or more is told as want of memory.
     pub fn step(
         &mut self,
         alloc: Global,
@@ -91,6 +98,7 @@ impl Plan {
         requires parts { BelongTogether layers.now touches.now shape.now }
         requires plan { IsPlanOf touches.now shape.now self.old }
         requires step { IsStepFor shape.now 0 step.now }
+        requires once { is_tiling step.now ≡ true → self.old.count ≡ 1 }
         ensures takes { Takes touches.now shape.now number self.old result self.new step.now }
         ensures plan { IsPlanOf touches.now shape.now self.new }
         ensures refused { OnErr result (self.new ≡ self.old) }
@@ -133,9 +141,21 @@ impl Plan {
                 )?;
                 self.reorder(alloc, layers, touches, shape, number, *of, order)
             }
-            Step::Cpack { .. } | Step::Tile { .. } | Step::TilePack { .. } => {
-                Err(PlanFault::Later { step: number })
+            Step::Tile {
+                of,
+                step,
+                seed,
+                parts,
+            } => {
+                let tiling = Tiling {
+                    of: *of,
+                    step: *step,
+                    seed: *seed,
+                    parts: *parts,
+                };
+                self.tile(alloc, touches, shape, number, tiling)
             }
+            Step::Cpack { .. } | Step::TilePack { .. } => Err(PlanFault::Later { step: number }),
         }
     }
 
@@ -164,6 +184,33 @@ impl Plan {
                 Ok(())
             }
             Some((p, q)) => Err(PlanFault::Illegal { step: number, p, q }),
+        }
+    }
+
+    /// Gives the units the tiles that grow from the seed, if it doesn't fall.
+    fn tile(
+        &mut self,
+        alloc: Global,
+        touches: &Touches,
+        shape: &Shape,
+        number: u32,
+        tiling: Tiling,
+    ) -> Result<(), PlanFault>
+        requires lists { length touches.now ≡ iterations shape.now.loops }
+        requires inside { (u e : ℕ) → IsTouched (touches_at touches.now u) e → e < cells_in shape.now.arrays }
+        requires plan { IsPlanOf touches.now shape.now self.old }
+        requires step { IsStepFor shape.now 0 (Tile tiling.of tiling.step tiling.seed tiling.parts) }
+        requires once { self.old.count ≡ 1 }
+        ensures tiles { TakesTile touches.now shape.now number tiling.of tiling.step tiling.seed tiling.parts self.old result self.new }
+        ensures plan { IsPlanOf touches.now shape.now self.new }
+    {
+        match grown_tiles(alloc, touches, shape, number, self.order(tiling.of), tiling) {
+            Ok(tiles) => {
+                self.places.tiles = Items::from_vec(tiles);
+                self.tiles = tiling.parts;
+                Ok(())
+            }
+            Err(fault) => Err(fault),
         }
     }
 
