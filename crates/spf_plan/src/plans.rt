@@ -105,40 +105,21 @@ impl Plan {
     {
         match step {
             Step::LexGroup { of, by } => {
-                let order = lexgroup(
-                    alloc,
-                    touches,
-                    shape,
-                    *of,
-                    *by,
-                    self.order(*of),
-                    self.pack(*by),
-                )?;
+                let old = self.order(*of);
+                let now = self.pack(*by);
+                let order = lexgroup(alloc, touches, shape, *of, *by, old, now)?;
                 self.reorder(alloc, layers, touches, shape, number, *of, order)
             }
             Step::LexSort { of, by } => {
-                let order = lexsort(
-                    alloc,
-                    touches,
-                    shape,
-                    *of,
-                    *by,
-                    self.order(*of),
-                    self.pack(*by),
-                )?;
+                let old = self.order(*of);
+                let now = self.pack(*by);
+                let order = lexsort(alloc, touches, shape, *of, *by, old, now)?;
                 self.reorder(alloc, layers, touches, shape, number, *of, order)
             }
             Step::Bucket { of, by, size } => {
-                let order = bucket(
-                    alloc,
-                    touches,
-                    shape,
-                    *of,
-                    *by,
-                    self.order(*of),
-                    self.pack(*by),
-                    *size,
-                )?;
+                let old = self.order(*of);
+                let now = self.pack(*by);
+                let order = bucket(alloc, touches, shape, *of, *by, old, now, *size)?;
                 self.reorder(alloc, layers, touches, shape, number, *of, order)
             }
             Step::Tile {

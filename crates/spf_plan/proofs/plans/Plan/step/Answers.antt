@@ -5,7 +5,7 @@ pub returns-in_ok-order-in-LexGroup-clause-takes : goal.returns-in_ok-order-in-L
 returns-in_ok-order-in-LexGroup-clause-takes c =
     rw c.in-LexGroup.is (inr (
       c.in_ok-order-in-LexGroup.order,
-      record { perm = c.reorder.ensures.perm; ordered = rw (c.order.ensures, c.pack.ensures) at c.in_ok-order-in-LexGroup.ensures },
+      record { perm = c.reorder.ensures.perm; ordered = rw (c.order-old.ensures, c.pack-now.ensures) at c.in_ok-order-in-LexGroup.ensures },
       c.reorder.ensures.reorders,
     ))
 
@@ -13,7 +13,7 @@ pub returns-in_ok-order-in-LexSort-clause-takes : goal.returns-in_ok-order-in-Le
 returns-in_ok-order-in-LexSort-clause-takes c =
     rw c.in-LexSort.is (inr (
       c.in_ok-order-in-LexSort.order,
-      record { perm = c.reorder-in-LexSort.ensures.perm; ordered = rw (c.order-in-LexSort.ensures, c.pack-in-LexSort.ensures) at c.in_ok-order-in-LexSort.ensures },
+      record { perm = c.reorder-in-LexSort.ensures.perm; ordered = rw (c.order-old-in-LexSort.ensures, c.pack-now-in-LexSort.ensures) at c.in_ok-order-in-LexSort.ensures },
       c.reorder-in-LexSort.ensures.reorders,
     ))
 
@@ -21,6 +21,6 @@ pub returns-in_ok-order-in-Bucket-clause-takes : goal.returns-in_ok-order-in-Buc
 returns-in_ok-order-in-Bucket-clause-takes c =
     rw c.in-Bucket.is (inr (
       c.in_ok-order-in-Bucket.order,
-      record { perm = c.reorder-in-Bucket.ensures.perm; ordered = rw (c.order-in-Bucket.ensures, c.pack-in-Bucket.ensures) at c.in_ok-order-in-Bucket.ensures },
+      record { perm = c.reorder-in-Bucket.ensures.perm; ordered = rw (c.order-old-in-Bucket.ensures, c.pack-now-in-Bucket.ensures) at c.in_ok-order-in-Bucket.ensures },
       c.reorder-in-Bucket.ensures.reorders,
     ))
