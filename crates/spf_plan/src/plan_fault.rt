@@ -8,7 +8,8 @@ use thiserror::Error;
 /// The refusal of a step, counted from 1, or want of memory.
 #[derive(Drop, Error)]
 pub enum PlanFault {
-    /// The step reverses two conflicting units: of all such pairs the one with the least second and then the greatest first.
+    /// The step reverses two conflicting units, or the parts of a tiling fall along them: of all such pairs the one with the
+    /// least second and then the greatest first.
     #[error("illegal")]
     Illegal { step: u32, p: Unit, q: Unit },
     /// The step is of a kind that isn't taken so far.
