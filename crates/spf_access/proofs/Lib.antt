@@ -5,3 +5,4 @@ mod Faults
 mod Coming
 mod Ranges
 mod InRange
+mod Touched
