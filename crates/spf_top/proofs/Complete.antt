@@ -33,8 +33,11 @@ use Rattle.spf_top.specs.declared.outcome.Outcome.{Outcome}
 use Rattle.spf_top.specs.declared.outcome.Outcome.TheVariants.{Done, Memory, Usage, ReadFault, WriteFault, Text, Kernel, Input, Range, Script, Illegal, Limit, Later}
 use Rattle.spf_top.specs.declared.outcome.What.TheVariants.{Bytes}
 use Rattle.spf_top.specs.Outcome.{plan_refused, refused, script_refused, shape_refused, walk_refused}
-use Rattle.spf_top.specs.Words.{IsAccepted, IsRefusedAt}
-use Rattle.spf_top.specs.Command.{AnswersWords, AnswersInput, HasLoopsOf, IsDoneOrMemory, IsOfBytes, carries_out, compiles, executes, fits, measures, plans, reads, refusing, resolves, runs, walks}
+use Rattle.spf_top.specs.Words.{AsksFor, IsAccepted, IsRefusedAt}
+use Rattle.spf_top.specs.declared.words.Asked.{Asked}
+use Rattle.spf_top.specs.declared.words.Asked.TheVariants.{Run, Plan}
+use Rattle.spf_top.specs.Command.{AnswersWords, AnswersInput, HasLoopsOf, IsDoneOrMemory, IsOfBytes, answers, carries_out, compiles, executes, finishes, fits, measures, plans, reads, refusing, resolves, shows, walks}
+use Rattle.spf_top.proofs.PlanTexts.{one_plan_text}
 use Rattle.spf_top.proofs.Shapes.{same_shape}
 
 -- accepted words are refused at no word
@@ -42,8 +45,15 @@ not_refused : (words : List (List ℕ)) (word : ℕ) → IsAccepted words → Is
 not_refused words word accepted refused =
     elim (cases_lt (length words) word) [
       | inl past ↦ refused.behind (omega (arith, refused.last)) accepted
-      | inr within ↦ refused.here within (drop word words, take-append-drop word words ∙ accepted)
+      | inr within ↦ refused.here within (drop word words, (accepted.0, take-append-drop word words ∙ accepted.1))
     ]
+
+-- no words ask for two commands
+one_command : (words : List (List ℕ)) (asked other : Asked) → AsksFor words asked → AsksFor words other → asked ≡ other
+one_command words Run Run is is_too = refl
+one_command words Run Plan is is_too = let e = sym is ∙ is_too in absurd cc
+one_command words Plan Run is is_too = let e = sym is ∙ is_too in absurd cc
+one_command words Plan Plan is is_too = refl
 
 -- ---- each stage has one answer
 
@@ -97,7 +107,20 @@ one_executes : OneAnswer Memory executes
 one_executes given text (Ok other) ran ran_too = inl (ap Ok (ran_too ∙ sym ran))
 one_executes given text (Err refusal) ran free = inr (ap Err free)
 
--- the laws of the layers above
+one_shows : OneAnswer Memory shows
+one_shows given text (Ok other) shown shown_too = inl (ap Ok (one_plan_text given.0.0.1 given.0.0.0.1 given.1 other text shown_too shown))
+one_shows given text (Err refusal) shown free = inr (ap Err free)
+
+one_finishes : (asked : Asked) → OneAnswer Memory (finishes asked)
+one_finishes Run = one_executes
+one_finishes Plan = one_shows
+
+-- each command may find no memory
+pub out_of_memory : (asked : Asked) (given : (((Bundle × Shape) × List (List Touch)) × List Step) × Planned) (refusal : Outcome) → refusal ≡ Memory → finishes asked given (Err refusal)
+out_of_memory Run given refusal free = free
+out_of_memory Plan given refusal free = free
+
+-- the laws of the layers below
 pub record Laws : Type 0 where
   pub resolve : (shape : Shape) (plugs : ℕ) (script : List TextStep) (a b : Result (List Step) ScriptFault) → IsResolveAnswer shape plugs script a → IsResolveAnswer shape plugs script b →
       (a ≡ b) ⊎ ((a ≡ Err script_is.Memory) ⊎ (b ≡ Err script_is.Memory))
@@ -111,20 +134,21 @@ module _ (laws : Laws) where
   one_plans : OneAnswer Memory plans
   one_plans = one_refusing plan_is.Memory plan_refused _ (λ given b result is is_too. by_law plan_is.Memory b result (laws.plan given.0.1 given.0.0.1 given.1 result (Ok b) is_too is))
 
-  one_carries_out : OneAnswer Memory carries_out
-  one_carries_out =
-      one_then Memory (with_given walks) (with_given resolves then (with_given plans then executes)) (one_with_given walks (one_refusing access_is.Memory walk_refused _ one_access))
-      (one_then Memory (with_given resolves) (with_given plans then executes) (one_with_given resolves one_resolves) (one_then Memory (with_given plans) executes (one_with_given plans one_plans) one_executes))
+  one_carries_out : (asked : Asked) → OneAnswer Memory (carries_out asked)
+  one_carries_out asked =
+      one_then Memory (with_given walks) (with_given resolves then (with_given plans then finishes asked)) (one_with_given walks (one_refusing access_is.Memory walk_refused _ one_access))
+      (one_then Memory (with_given resolves) (with_given plans then finishes asked) (one_with_given resolves one_resolves) (one_then Memory (with_given plans) (finishes asked) (one_with_given plans one_plans) (one_finishes asked)))
 
-  one_runs : OneAnswer Memory runs
-  unfolding runs
-  one_runs =
-      one_then Memory fits (reads then compiles) one_fits
-      (one_then Memory reads compiles one_reads (one_then Memory (with_given measures) carries_out (one_with_given measures (one_refusing shape_is.Memory shape_refused _ one_shape)) one_carries_out))
+  one_answers : (asked : Asked) → OneAnswer Memory (answers asked)
+  unfolding answers
+  one_answers asked =
+      one_then Memory fits (reads then compiles asked) one_fits
+      (one_then Memory reads (compiles asked) one_reads
+      (one_then Memory (with_given measures) (carries_out asked) (one_with_given measures (one_refusing shape_is.Memory shape_refused _ one_shape)) (one_carries_out asked)))
 
 -- bytes for which a text is written are refused for want of memory alone
-refused_for_memory : Laws → (bytes text : List ℕ) (refusal : Outcome) → runs bytes (Ok text) → runs bytes (Err refusal) → refusal ≡ Memory
-refused_for_memory laws bytes text refusal ran refused = same_fault Memory text refusal (Err refusal) refl (one_runs laws bytes text (Err refusal) ran refused)
+refused_for_memory : Laws → (asked : Asked) (bytes text : List ℕ) (refusal : Outcome) → answers asked bytes (Ok text) → answers asked bytes (Err refusal) → refusal ≡ Memory
+refused_for_memory laws asked bytes text refusal wrote refused = same_fault Memory text refusal (Err refusal) refl (one_answers laws asked bytes text (Err refusal) wrote refused)
 
 -- ---- the names of loops
 
@@ -148,49 +172,53 @@ no_loops_measured bytes bundle refusal loops (fault, failed, same) = subst (λ (
 
 -- ---- the call
 
-module _ (laws : Laws) (words : List (List ℕ)) (bytes : List ℕ) (before after : Option (List ℕ)) (R W : Type 0) where
-  by_outcome : (outcome : Outcome) → AnswersWords words outcome → AnswersInput bytes before after outcome → (outcome ≡ ReadFault → R) → (outcome ≡ WriteFault → W) → IsAccepted words
-      → (text : List ℕ) → runs bytes (Ok text) → ¬ R → ¬ W → IsDoneOrMemory outcome
-  by_outcome Done answers input read write accepted text ran not_read not_write = tt
-  by_outcome Memory answers input read write accepted text ran not_read not_write = tt
-  by_outcome (Usage word) answers input read write accepted text ran not_read not_write = absurd (not_refused words word accepted answers)
-  by_outcome ReadFault answers input read write accepted text ran not_read not_write = absurd (not_read (read refl))
-  by_outcome WriteFault answers input read write accepted text ran not_read not_write = absurd (not_write (write refl))
-  by_outcome (Text place kind) answers input read write accepted text ran not_read not_write = let e = refused_for_memory laws bytes text (Text place kind) ran input in absurd cc
-  by_outcome (Kernel place rule) answers input read write accepted text ran not_read not_write = let e = refused_for_memory laws bytes text (Kernel place rule) ran input in absurd cc
-  by_outcome (Input name place rule) answers input read write accepted text ran not_read not_write = let e = refused_for_memory laws bytes text (Input name place rule) ran input in absurd cc
-  by_outcome (Range loop_no iteration site value) answers input read write accepted text ran not_read not_write = let e = refused_for_memory laws bytes text (Range loop_no iteration site value) ran input in absurd cc
-  by_outcome (Script step rule) answers input read write accepted text ran not_read not_write = let e = refused_for_memory laws bytes text (Script step rule) ran input in absurd cc
-  by_outcome (Illegal step p q) answers input read write accepted text ran not_read not_write = let e = refused_for_memory laws bytes text (Illegal step p q) ran input in absurd cc
-  by_outcome (Limit what count) answers input read write accepted text ran not_read not_write = let e = refused_for_memory laws bytes text (Limit what count) ran input in absurd cc
-  by_outcome Later answers input read write accepted text ran not_read not_write = let e = refused_for_memory laws bytes text Later ran input in absurd cc
+module _ (laws : Laws) (asked : Asked) (words : List (List ℕ)) (bytes : List ℕ) (before after : Option (List ℕ)) (R W : Type 0) where
+  by_outcome : (outcome : Outcome) → AnswersWords words outcome → AnswersInput asked bytes before after outcome → (outcome ≡ ReadFault → R) → (outcome ≡ WriteFault → W) → AsksFor words asked
+      → (text : List ℕ) → answers asked bytes (Ok text) → ¬ R → ¬ W → IsDoneOrMemory outcome
+  by_outcome Done told input read write asks text wrote not_read not_write = tt
+  by_outcome Memory told input read write asks text wrote not_read not_write = tt
+  by_outcome (Usage word) told input read write asks text wrote not_read not_write = absurd (not_refused words word (asked, asks) told)
+  by_outcome ReadFault told input read write asks text wrote not_read not_write = absurd (not_read (read refl))
+  by_outcome WriteFault told input read write asks text wrote not_read not_write = absurd (not_write (write refl))
+  by_outcome (Text place kind) told input read write asks text wrote not_read not_write = let e = refused_for_memory laws asked bytes text (Text place kind) wrote input in absurd cc
+  by_outcome (Kernel place rule) told input read write asks text wrote not_read not_write = let e = refused_for_memory laws asked bytes text (Kernel place rule) wrote input in absurd cc
+  by_outcome (Input name place rule) told input read write asks text wrote not_read not_write = let e = refused_for_memory laws asked bytes text (Input name place rule) wrote input in absurd cc
+  by_outcome (Range loop_no iteration site value) told input read write asks text wrote not_read not_write = let e = refused_for_memory laws asked bytes text (Range loop_no iteration site value) wrote input in absurd cc
+  by_outcome (Script step rule) told input read write asks text wrote not_read not_write = let e = refused_for_memory laws asked bytes text (Script step rule) wrote input in absurd cc
+  by_outcome (Illegal step p q) told input read write asks text wrote not_read not_write = let e = refused_for_memory laws asked bytes text (Illegal step p q) wrote input in absurd cc
+  by_outcome (Limit what count) told input read write asks text wrote not_read not_write = let e = refused_for_memory laws asked bytes text (Limit what count) wrote input in absurd cc
+  by_outcome Later told input read write asks text wrote not_read not_write = let e = refused_for_memory laws asked bytes text Later wrote input in absurd cc
 
-pub completes : Laws → (words : List (List ℕ)) (held before after : Option (List ℕ)) (read_rose write_rose : Type 0) (outcome : Outcome) → AnswersWords words outcome → IfSome held (λ bytes. AnswersInput bytes before after outcome)
-    → (outcome ≡ ReadFault → read_rose) → (outcome ≡ WriteFault → write_rose) → IsAccepted words
-    → IfSome held (λ bytes. (text : List ℕ) → runs bytes (Ok text) → ¬ read_rose → ¬ write_rose → IsDoneOrMemory outcome)
-completes laws words None before after R W outcome answers input read write accepted = tt
-completes laws words (Some bytes) before after R W outcome answers input read write accepted = by_outcome laws words bytes before after R W outcome answers input read write accepted
+pub completes : Laws → (asked : Asked) (words : List (List ℕ)) (held before after : Option (List ℕ)) (read_rose write_rose : Type 0) (outcome : Outcome) → AnswersWords words outcome → IfSome held (λ bytes. (asked : Asked) → AsksFor words asked → AnswersInput asked bytes before after outcome)
+    → (outcome ≡ ReadFault → read_rose) → (outcome ≡ WriteFault → write_rose) → AsksFor words asked
+    → IfSome held (λ bytes. (text : List ℕ) → answers asked bytes (Ok text) → ¬ read_rose → ¬ write_rose → IsDoneOrMemory outcome)
+completes laws asked words None before after R W outcome told input read write asks = tt
+completes laws asked words (Some bytes) before after R W outcome told input read write asks = by_outcome laws asked words bytes before after R W outcome told (input asked asks) read write asks
 
 -- what is known of the bytes that were read is known of those that were held
 pub of_whole : (held : Option (List ℕ)) (bytes : List ℕ) → IfSome held (λ told. told ≡ bytes) → (P : List ℕ → Type 0) → P bytes → IfSome held P
 of_whole None bytes e P h = tt
 of_whole (Some told) bytes e P h = subst P (sym e) h
 
+-- what is known of the command that the words ask for is known of each that they ask for
+pub of_asked : (words : List (List ℕ)) (asked : Asked) → AsksFor words asked → (P : Asked → Type 0) → P asked → (other : Asked) → AsksFor words other → P other
+of_asked words asked is P h other is_too = subst P (one_command words asked other is is_too) h
+
 -- a refusal of the bytes is their answer
-pub refusal_answers : (bytes : List ℕ) (before after : Option (List ℕ)) (refusal : Outcome) → IsOfBytes refusal → runs bytes (Err refusal) → AnswersInput bytes before after refusal
-refusal_answers bytes before after Done own refused = absurd own
-refusal_answers bytes before after Memory own refused = tt
-refusal_answers bytes before after (Usage word) own refused = absurd own
-refusal_answers bytes before after ReadFault own refused = absurd own
-refusal_answers bytes before after WriteFault own refused = absurd own
-refusal_answers bytes before after (Text place kind) own refused = refused
-refusal_answers bytes before after (Kernel place rule) own refused = refused
-refusal_answers bytes before after (Input name place rule) own refused = refused
-refusal_answers bytes before after (Range loop_no iteration site value) own refused = refused
-refusal_answers bytes before after (Script step rule) own refused = refused
-refusal_answers bytes before after (Illegal step p q) own refused = refused
-refusal_answers bytes before after (Limit what count) own refused = refused
-refusal_answers bytes before after Later own refused = refused
+pub refusal_answers : (asked : Asked) (bytes : List ℕ) (before after : Option (List ℕ)) (refusal : Outcome) → IsOfBytes refusal → answers asked bytes (Err refusal) → AnswersInput asked bytes before after refusal
+refusal_answers asked bytes before after Done own refused = absurd own
+refusal_answers asked bytes before after Memory own refused = tt
+refusal_answers asked bytes before after (Usage word) own refused = absurd own
+refusal_answers asked bytes before after ReadFault own refused = absurd own
+refusal_answers asked bytes before after WriteFault own refused = absurd own
+refusal_answers asked bytes before after (Text place kind) own refused = refused
+refusal_answers asked bytes before after (Kernel place rule) own refused = refused
+refusal_answers asked bytes before after (Input name place rule) own refused = refused
+refusal_answers asked bytes before after (Range loop_no iteration site value) own refused = refused
+refusal_answers asked bytes before after (Script step rule) own refused = refused
+refusal_answers asked bytes before after (Illegal step p q) own refused = refused
+refusal_answers asked bytes before after (Limit what count) own refused = refused
+refusal_answers asked bytes before after Later own refused = refused
 
 -- and the words that asked for it are accepted
 pub words_accepted : (words : List (List ℕ)) (refusal : Outcome) → IsOfBytes refusal → IsAccepted words → AnswersWords words refusal
@@ -209,7 +237,7 @@ words_accepted words (Limit what count) own accepted = accepted
 words_accepted words Later own accepted = accepted
 
 -- a source from which one byte too many was taken held too many
-pub too_many : (held rest : Option (List ℕ)) (front : List ℕ) → length front ≡ 67108865 → Takes held front rest → IfSome held (λ bytes. runs bytes (Err (Limit Bytes 67108865)))
-unfolding runs
-too_many held None front long taken = rw taken tt
-too_many held (Some rest) front long taken = rw taken (inl (refl, omega (arith, long, length-append front rest)))
+pub too_many : (words : List (List ℕ)) (held rest : Option (List ℕ)) (front : List ℕ) → length front ≡ 67108865 → Takes held front rest → IfSome held (λ bytes. (asked : Asked) → AsksFor words asked → answers asked bytes (Err (Limit Bytes 67108865)))
+unfolding answers
+too_many words held None front long taken = rw taken tt
+too_many words held (Some rest) front long taken = rw taken (λ asked asks. inl (refl, omega (arith, long, length-append front rest)))

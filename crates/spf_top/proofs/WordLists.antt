@@ -1,22 +1,27 @@
 -- Which words are refused, over lists.
-use Rattle.std.proofs.Common.{◌≡◌, ℕ, ◌<◌, List, [], ◌∷◌, map, length, get_or, ap, arith}
-use Rattle.std.specs.Prelude.{codes}
-use Rattle.spf_top.specs.Words.{IsAccepted, IsRefusedAt}
+use Rattle.std.proofs.Common.{◌≡◌, ℕ, ◌<◌, List, [], ◌∷◌, map, length, get_or, refl, ap, ◌∙◌, arith}
+use Rattle.spf_top.specs.Words.{IsRefusedAt, word_of}
+use Rattle.spf_top.specs.declared.words.Asked.{Asked}
+use Rattle.spf_top.specs.declared.words.Asked.TheVariants.{Run}
 
--- one word, which is `run`
-pub accepted_alone : {X : Type 0} (text : X → List ℕ) (xs : List X) (x : X) → length xs ≡ 1 → x ≡ get_or xs 0 x → text x ≡ codes "run" → IsAccepted (map text xs)
-accepted_alone text [] x len first is = absurd (omega (arith, len))
-accepted_alone text (y ∷ []) x len first is = rw (← first) (ap (λ (t : List ℕ). t ∷ []) is)
-accepted_alone text (y ∷ z ∷ ys) x len first is = absurd (omega (arith, len))
-
--- `run` and more words
-pub refused_second : {X : Type 0} (text : X → List ℕ) (xs : List X) (x : X) → 1 < length xs → x ≡ get_or xs 0 x → text x ≡ codes "run" → IsRefusedAt (map text xs) 2
-refused_second text [] x len first is = absurd (omega (arith, len))
-refused_second text (y ∷ []) x len first is = absurd (omega (arith, len))
-refused_second text (y ∷ z ∷ ys) x len first is = record {
+-- no word
+pub refused_none : {X : Type 0} (text : X → List ℕ) (xs : List X) → length xs ≡ 0 → IsRefusedAt (map text xs) 1
+refused_none text [] len = record {
   first = omega arith;
   last = omega arith;
-  before = ([], rw (← first) (ap (λ (t : List ℕ). t ∷ []) is));
-  here = λ _ begins. let e = begins.1 in absurd cc;
+  before = (word_of Run ∷ [], (Run, refl));
+  here = λ within begins. absurd (omega (arith, within));
+  behind = λ _ accepted. let e = accepted.1 in absurd cc;
+}
+refused_none text (x ∷ xs) len = absurd (omega (arith, len))
+
+-- a first word that is no command's
+pub refused_first : {X : Type 0} (text : X → List ℕ) (xs : List X) (x : X) → 0 < length xs → x ≡ get_or xs 0 x → ((asked : Asked) → text x ≡ word_of asked → ⊥) → IsRefusedAt (map text xs) 1
+refused_first text [] x len first unknown = absurd (omega (arith, len))
+refused_first text (y ∷ ys) x len first unknown = record {
+  first = omega arith;
+  last = omega arith;
+  before = (word_of Run ∷ [], (Run, refl));
+  here = λ _ begins. let e = begins.1.1 in let same : text y ≡ word_of begins.1.0 = cc in absurd (unknown begins.1.0 (ap text first ∙ same));
   behind = λ e _. absurd (omega (arith, e));
 }

@@ -17,8 +17,11 @@ use Rattle.spf_top.specs.declared.outcome.Outcome.{Outcome}
 use Rattle.spf_top.specs.declared.outcome.Outcome.TheVariants.{Done, Memory, Usage, ReadFault, WriteFault, Limit, Range, Illegal}
 use Rattle.spf_top.specs.declared.outcome.What.TheVariants.{Bytes}
 use Rattle.spf_top.specs.Outcome.{plan_refused, refused, script_refused, shape_refused, walk_refused}
+use Rattle.spf_top.specs.PlanText.{IsPlanText}
 use Rattle.spf_top.specs.Texts.{text_of}
 use Rattle.spf_top.specs.Words.{IsAccepted, IsRefusedAt}
+use Rattle.spf_top.specs.declared.words.Asked.{Asked}
+use Rattle.spf_top.specs.declared.words.Asked.TheVariants.{Run, Plan}
 
 -- ---- stages: each goes on with what it answers, or says why the bytes are refused
 
@@ -57,16 +60,26 @@ abbrev pub executes : (((Bundle × Shape) × List (List Touch)) × List Step) ×
 executes given (Ok text) = text ≡ text_of given.0.0.0.0
 executes given (Err refusal) = refusal ≡ Memory
 
--- what `run` makes of a bundle of this shape, and of a bundle
-abbrev pub carries_out : Bundle × Shape → Result (List ℕ) Outcome → Type 0
-carries_out = with_given walks then (with_given resolves then (with_given plans then executes))
+-- the text of the plan
+abbrev pub shows : (((Bundle × Shape) × List (List Touch)) × List Step) × Planned → Result (List ℕ) Outcome → Type 0
+shows given (Ok text) = IsPlanText given.0.0.1 given.0.0.0.1 given.1 text
+shows given (Err refusal) = refusal ≡ Memory
 
-abbrev pub compiles : Bundle → Result (List ℕ) Outcome → Type 0
-compiles = with_given measures then carries_out
+-- what a command does with a plan
+abbrev pub finishes : Asked → (((Bundle × Shape) × List (List Touch)) × List Step) × Planned → Result (List ℕ) Outcome → Type 0
+finishes Run = executes
+finishes Plan = shows
 
--- what `run` writes for these bytes, or why it refuses them: the stages in the order of refusals
-unfoldable pub runs : List ℕ → Result (List ℕ) Outcome → Type 0
-runs = fits then (reads then compiles)
+-- what it makes of a bundle of this shape, and of a bundle
+abbrev pub carries_out : Asked → Bundle × Shape → Result (List ℕ) Outcome → Type 0
+carries_out asked = with_given walks then (with_given resolves then (with_given plans then finishes asked))
+
+abbrev pub compiles : Asked → Bundle → Result (List ℕ) Outcome → Type 0
+compiles asked = with_given measures then carries_out asked
+
+-- what a command writes for these bytes, or why it refuses them: the stages in the order of refusals
+unfoldable pub answers : Asked → List ℕ → Result (List ℕ) Outcome → Type 0
+answers asked = fits then (reads then compiles asked)
 
 -- ---- the call
 
@@ -77,13 +90,13 @@ AnswersWords words outcome = IsAccepted words
 
 -- What was appended to the output is the text of these bytes at `Done`, and a front of it at `WriteFault`; each refusal of
 -- the bytes is theirs.
-abbrev pub AnswersInput : List ℕ → Option (List ℕ) → Option (List ℕ) → Outcome → Type 0
-AnswersInput bytes before after Done = (text : List ℕ) × runs bytes (Ok text) × Appends before text after
-AnswersInput bytes before after WriteFault = (text : List ℕ) × runs bytes (Ok text) × (n : ℕ) × (n ≤ length text) × Appends before (take n text) after
-AnswersInput bytes before after Memory = ⊤
-AnswersInput bytes before after (Usage word) = ⊤
-AnswersInput bytes before after ReadFault = ⊤
-AnswersInput bytes before after refusal = runs bytes (Err refusal)
+abbrev pub AnswersInput : Asked → List ℕ → Option (List ℕ) → Option (List ℕ) → Outcome → Type 0
+AnswersInput asked bytes before after Done = (text : List ℕ) × answers asked bytes (Ok text) × Appends before text after
+AnswersInput asked bytes before after WriteFault = (text : List ℕ) × answers asked bytes (Ok text) × (n : ℕ) × (n ≤ length text) × Appends before (take n text) after
+AnswersInput asked bytes before after Memory = ⊤
+AnswersInput asked bytes before after (Usage word) = ⊤
+AnswersInput asked bytes before after ReadFault = ⊤
+AnswersInput asked bytes before after refusal = answers asked bytes (Err refusal)
 
 -- the outcome is told with the names of loops
 abbrev pub NamesLoops : Outcome → Type 0

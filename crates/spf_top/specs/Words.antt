@@ -1,9 +1,20 @@
--- Which lists of words are accepted, and at which word a list is refused.
+-- Which lists of words are accepted, what they ask for, and at which word a list is refused.
 use Rattle.std.specs.Prelude.{◌≡◌, ℕ, ◌+◌, ◌-◌, ◌≤◌, List, [], ◌∷◌, ◌++◌, length, take, codes}
+use Rattle.spf_top.specs.declared.words.Asked.{Asked}
+use Rattle.spf_top.specs.declared.words.Asked.TheVariants.{Run, Plan}
 
--- the accepted lists of words: `run` alone
+-- the word of a command
+abbrev pub word_of : Asked → List ℕ
+word_of Run = codes "run"
+word_of Plan = codes "plan"
+
+-- the words ask for this command: its word alone
+abbrev pub AsksFor : List (List ℕ) → Asked → Type 0
+AsksFor words asked = words ≡ word_of asked ∷ []
+
+-- the accepted lists of words: those that ask for a command
 abbrev pub IsAccepted : List (List ℕ) → Type 0
-IsAccepted words = words ≡ codes "run" ∷ []
+IsAccepted words = (asked : Asked) × AsksFor words asked
 
 -- some accepted list begins with these words
 abbrev pub BeginsAccepted : List (List ℕ) → Type 0

@@ -1,19 +1,20 @@
-//! The command that the program carries out.
+//! The commands that the program carries out.
 
 ghost use Rattle.std.specs.Prelude.{◌≡◌, ℕ, ◌≤◌, List, [], length, map, Ok, Err, IfOk, IfErr, IfSome, string_bytes};
 ghost use Rattle.spf_io.specs.Stream.{Rose};
-ghost use Rattle.spf_top.specs.Words.{IsAccepted};
+ghost use Rattle.spf_top.specs.Words.{AsksFor};
+ghost use Rattle.spf_top.specs.declared.words.Asked.{Asked};
 ghost use Rattle.spf_top.specs.Outcome.{line_of};
 ghost use Rattle.spf_top.specs.Report.{AppendsOrFails};
 ghost use Rattle.spf_space.specs.declared.shape.LoopShape.{LoopShape};
 ghost use Rattle.spf_store.specs.Shaped.{IsShapeOf};
-ghost use Rattle.spf_top.specs.Command.{AnswersWords, AnswersInput, HasLoopsOf, IsDoneOrMemory, IsOfBytes, IsQuiet, carries_out, runs};
+ghost use Rattle.spf_top.specs.Command.{AnswersWords, AnswersInput, HasLoopsOf, IsDoneOrMemory, IsOfBytes, IsQuiet, answers, carries_out};
 ghost use Rattle.spf_top.specs.Kept.{IsKept};
 
 use crate::outcome::{Outcome, What, refusal};
 use crate::report::report;
-use crate::stages::{execute, kept, measure, planned, resolved, walk};
-use crate::words::refused_word;
+use crate::stages::{finish, kept, layered, measure, planned, resolved, walk};
+use crate::words::{Asked, asked_by};
 use spf_access::touched_elements_are_cells;
 use spf_input::{Bundle, read_bundle};
 use spf_io::{Failed, ReadAll, Sink, Source, read_all, write_all};
@@ -40,13 +41,13 @@ fn without_loops(alloc: Global, outcome: Outcome) -> Ended
     }
 }
 
-/// What `run` writes for a bundle of this shape, or why it refuses it. Linear in the visits and the cells, and what layers,
-/// orders and tests of legality cost.
-fn carry_out(alloc: Global, bundle: Bundle, shape: &Shape) -> Result<Vec<u8>, Outcome>
+/// What the command writes for a bundle of this shape, or why it refuses it. Linear in the visits and in what it writes, and
+/// what layers, orders, tests of legality and, for a plan's text, the order of the tiles cost.
+fn carry_out(alloc: Global, asked: Asked, bundle: Bundle, shape: &Shape) -> Result<Vec<u8>, Outcome>
     requires kept { IsKept bundle }
     requires shape { IsShapeOf bundle.env bundle.kernel shape.now }
-    ensures text { IfOk result (λ text. carries_out (bundle, shape.now) (Ok text.items)) }
-    ensures refused { IfErr result (λ refusal. carries_out (bundle, shape.now) (Err refusal)) }
+    ensures text { IfOk result (λ text. carries_out asked (bundle, shape.now) (Ok text.items)) }
+    ensures refused { IfErr result (λ refusal. carries_out asked (bundle, shape.now) (Err refusal)) }
     ensures of_bytes { IfErr result IsOfBytes }
 {
     touched_elements_are_cells();
@@ -58,21 +59,25 @@ fn carry_out(alloc: Global, bundle: Bundle, shape: &Shape) -> Result<Vec<u8>, Ou
         Ok(steps) => steps,
         Err(refusal) => return Err(refusal),
     };
-    let plan = match planned(alloc, shape, &touches, steps.as_slice()) {
+    let layers = match layered(alloc, shape, &touches) {
+        Ok(layers) => layers,
+        Err(refusal) => return Err(refusal),
+    };
+    let plan = match planned(alloc, shape, &layers, &touches, steps.as_slice()) {
         Ok(plan) => plan,
         Err(refusal) => return Err(refusal),
     };
-    match execute(alloc, bundle, shape, &touches, &plan) {
+    match finish(alloc, asked, bundle, shape, &layers, &touches, &plan) {
         Ok(text) => Ok(text),
         Err(refusal) => Err(refusal),
     }
 }
 
-/// What `run` writes for these bytes, or why it refuses them. Linear in the bytes and the visits.
-fn run_text(alloc: Global, bytes: &[u8]) -> Result<Vec<u8>, Ended>
+/// What the command writes for these bytes, or why it refuses them. Linear in the bytes, and what `carry_out` says.
+fn answer_bytes(alloc: Global, asked: Asked, bytes: &[u8]) -> Result<Vec<u8>, Ended>
     requires { length bytes.now ≤ 67108864 }
-    ensures text { IfOk result (λ text. runs bytes.now (Ok text.items)) }
-    ensures refused { IfErr result (λ ended. runs bytes.now (Err ended.outcome)) }
+    ensures text { IfOk result (λ text. answers asked bytes.now (Ok text.items)) }
+    ensures refused { IfErr result (λ ended. answers asked bytes.now (Err ended.outcome)) }
     ensures of_bytes { IfErr result (λ ended. IsOfBytes ended.outcome) }
     ensures named { IfErr result (λ ended. HasLoopsOf bytes.now ended.outcome ended.shape.loops) }
 {
@@ -85,7 +90,7 @@ fn run_text(alloc: Global, bytes: &[u8]) -> Result<Vec<u8>, Ended>
         Ok(shape) => shape,
         Err(outcome) => return Err(without_loops(alloc, outcome)),
     };
-    match carry_out(alloc, bundle, &shape) {
+    match carry_out(alloc, asked, bundle, &shape) {
         Ok(text) => Ok(text),
         Err(outcome) => Err(Ended { outcome, shape }),
     }
@@ -94,7 +99,8 @@ fn run_text(alloc: Global, bytes: &[u8]) -> Result<Vec<u8>, Ended>
 /// All of the command but the line on standard error.
 fn answer<S: Source, K: Sink>(alloc: Global, words: &[String], source: &mut S, out: &mut K) -> Ended
     ensures words { AnswersWords (map string_bytes words.now) result.outcome }
-    ensures input { IfSome (S.held source.old) (λ bytes. AnswersInput bytes (K.written out.old) (K.written out.new) result.outcome) }
+    ensures input { IfSome (S.held source.old) (λ bytes. (asked : Asked) → AsksFor (map string_bytes words.now) asked →
+        AnswersInput asked bytes (K.written out.old) (K.written out.new) result.outcome) }
     ensures named { IfSome (S.held source.old) (λ bytes. HasLoopsOf bytes result.outcome result.shape.loops) }
     ensures to_the_end { result.outcome ≡ Outcome.Done → IfSome (S.held source.new) (λ rest. rest ≡ []) }
     ensures unread { (word : ℕ) → result.outcome ≡ Outcome.Usage word → source.new ≡ source.old }
@@ -102,9 +108,10 @@ fn answer<S: Source, K: Sink>(alloc: Global, words: &[String], source: &mut S, o
     ensures read_fault { result.outcome ≡ Outcome.ReadFault → Rose (S.faults source.old) (S.faults source.new) }
     ensures write_fault { result.outcome ≡ Outcome.WriteFault → Rose (K.faults out.old) (K.faults out.new) }
 {
-    if let Some(word) = refused_word(words) {
-        return without_loops(alloc, Outcome::Usage { word });
-    }
+    let asked = match asked_by(words) {
+        Ok(asked) => asked,
+        Err(word) => return without_loops(alloc, Outcome::Usage { word }),
+    };
     let bytes = match read_all(alloc, source) {
         Ok(bytes) => bytes,
         Err(ReadAll::Memory) => return without_loops(alloc, Outcome::Memory),
@@ -115,7 +122,7 @@ fn answer<S: Source, K: Sink>(alloc: Global, words: &[String], source: &mut S, o
             return without_loops(alloc, Outcome::Limit { what, count });
         }
     };
-    let text = match run_text(alloc, &bytes) {
+    let text = match answer_bytes(alloc, asked, &bytes) {
         Ok(text) => text,
         Err(ended) => return ended,
     };
@@ -125,8 +132,9 @@ fn answer<S: Source, K: Sink>(alloc: Global, words: &[String], source: &mut S, o
     }
 }
 
-/// Carries out the command that the words ask for: it reads the bundle from `source`, writes the text of its result on
-/// `out` in one piece, and a line for any other outcome than `Done` on `err`. Linear in the bytes and in the visits.
+/// Carries out the command that the words ask for: it reads the bundle from `source`, writes the command's text on `out` in
+/// one piece, and a line for any other outcome than `Done` on `err`. Linear in the bytes, in the visits and in what it writes,
+/// beside what the script's steps and, for a plan's text, the order of the tiles cost.
 pub fn command<S: Source, K: Sink, E: Sink>(
     alloc: Global,
     words: &[String],
@@ -138,8 +146,9 @@ pub fn command<S: Source, K: Sink, E: Sink>(
     ensures words { AnswersWords (map string_bytes words.now) result }
     ensures unread { (word : ℕ) → result ≡ Outcome.Usage word → source.new ≡ source.old }
 
-    // The headline: what is written for which input. At `Done` the input was read to its end.
-    ensures input { IfSome (S.held source.old) (λ bytes. AnswersInput bytes (K.written out.old) (K.written out.new) result) }
+    // The headline: what is written for which words and input. At `Done` the input was read to its end.
+    ensures input { IfSome (S.held source.old) (λ bytes. (asked : Asked) → AsksFor (map string_bytes words.now) asked →
+        AnswersInput asked bytes (K.written out.old) (K.written out.new) result) }
     ensures to_the_end { result ≡ Outcome.Done → IfSome (S.held source.new) (λ rest. rest ≡ []) }
     ensures quiet { IsQuiet result → out.new ≡ out.old }
 
@@ -152,7 +161,7 @@ pub fn command<S: Source, K: Sink, E: Sink>(
         × AppendsOrFails (E.written err.old) (E.faults err.old) (line_of loops result) (E.written err.new) (E.faults err.new) }
 
     // Nothing but want of memory keeps an accepted bundle from its result.
-    ensures complete { IsAccepted (map string_bytes words.now) → IfSome (S.held source.old) (λ bytes. (text : List ℕ) → runs bytes (Ok text)
+    ensures complete { (asked : Asked) → AsksFor (map string_bytes words.now) asked → IfSome (S.held source.old) (λ bytes. (text : List ℕ) → answers asked bytes (Ok text)
         → ¬ Rose (S.faults source.old) (S.faults source.new) → ¬ Rose (K.faults out.old) (K.faults out.new) → IsDoneOrMemory result) }
 {
     one_resolve_answer();

@@ -1,4 +1,4 @@
-//! The stages of `run` behind the reading of a bundle: each goes on, or answers why the bundle is refused.
+//! The stages of a command behind the reading of a bundle: each goes on, or answers why the bundle is refused.
 
 ghost use Rattle.std.specs.Prelude.{◌≡◌, ◌<◌, ℕ, List, All, length, None, Ok, IfOk, IfErr, OnOk};
 ghost use Rattle.spf_access.specs.Answer.{IsAccessAnswer};
@@ -6,7 +6,9 @@ ghost use Rattle.spf_input.specs.Answer.{IsBundleAnswer};
 ghost use Rattle.spf_input.specs.declared.reading.Bundle.{Bundle};
 ghost use Rattle.spf_layers.specs.Legality.{IsLegal};
 ghost use Rattle.spf_plan.specs.Planned.{IsPlanOf};
-ghost use Rattle.spf_script.specs.Resolved.{IsStepFor};
+ghost use Rattle.spf_plan.specs.Taken.{BelongTogether};
+ghost use Rattle.spf_script.specs.Resolved.{IsStepFor, TilesOnce};
+ghost use Rattle.spf_script.specs.declared.resolved.Step.{Step};
 ghost use Rattle.spf_space.specs.Layout.{cells_in, iterations};
 ghost use Rattle.spf_space.specs.Places.{ArePlacesOf, place_of};
 ghost use Rattle.spf_space.specs.Units.{units_of};
@@ -18,13 +20,16 @@ ghost use Rattle.spf_store.specs.Source.{source_result};
 ghost use Rattle.spf_touch.specs.Frame.{IsTouched};
 ghost use Rattle.spf_touch.specs.Repeated.{touches_at};
 ghost use Rattle.spf_touch.specs.declared.touch.Touch.{Touch};
-ghost use Rattle.spf_top.specs.Command.{IsOfBytes, measures, plans, resolves, walks};
+ghost use Rattle.spf_top.specs.Command.{IsOfBytes, finishes, measures, plans, resolves, walks};
 ghost use Rattle.spf_top.specs.Kept.{IsKept};
+ghost use Rattle.spf_top.specs.PlanText.{IsPlanText};
 ghost use Rattle.spf_top.specs.Texts.{cell_of, text_of};
 ghost use Rattle.spf_top.specs.declared.outcome.Outcome.TheVariants.{Memory};
 
 use crate::outcome::{Outcome, plan_refusal, script_refusal, shape_refusal, walk_refusal};
+use crate::plan_text::plan_text;
 use crate::text::arrays_text;
+use crate::words::Asked;
 use spf_access::{accesses, no_fault_is_in_range, touched_elements_are_cells};
 use spf_base::NoMemory;
 use spf_input::{Bundle, kept_input_is_accepted};
@@ -37,6 +42,7 @@ use spf_source::{SourceUnits, ascending_units_are_the_source};
 use spf_space::{Places, Shape};
 use spf_store::{Store, shape};
 use spf_term::Env;
+use spf_tiles::tile_order;
 use spf_touch::Touches;
 use sqlite_items::Items;
 use std::alloc::Global;
@@ -80,6 +86,7 @@ pub fn walk(alloc: Global, bundle: &Bundle, shape: &Shape) -> Result<Touches, Ou
 pub fn resolved(alloc: Global, bundle: &Bundle, shape: &Shape) -> Result<Items<Step>, Outcome>
     ensures answer { (touches : List (List Touch)) → resolves ((bundle.now, shape.now), touches) result }
     ensures fitting { IfOk result (All (IsStepFor shape.now 0)) }
+    ensures once { IfOk result TilesOnce }
     ensures of_bytes { IfErr result IsOfBytes }
 {
     match resolve(alloc, &bundle.script, shape, 0) {
@@ -88,28 +95,61 @@ pub fn resolved(alloc: Global, bundle: &Bundle, shape: &Shape) -> Result<Items<S
     }
 }
 
+/// The units that touch each element, in groups. Near-linear in the touches of all steps.
+pub fn layered(alloc: Global, shape: &Shape, touches: &Touches) -> Result<Layers, Outcome>
+    requires lists { length touches.now ≡ iterations shape.now.loops }
+    requires inside { (u e : ℕ) → IsTouched (touches_at touches.now u) e → e < cells_in shape.now.arrays }
+    ensures layers { IfOk result (λ layers. BelongTogether layers touches.now shape.now) }
+    ensures refused { IfErr result (λ refusal. refusal ≡ Memory) }
+{
+    match Layers::build(alloc, touches, shape) {
+        Ok(layers) => Ok(layers),
+        Err(NoMemory) => Err(Outcome::Memory),
+    }
+}
+
 /// The plan that the steps make, if each of them is legal. Near-linear in the touches of all steps of the kernel, for each
 /// step of the script.
 pub fn planned(
     alloc: Global,
     shape: &Shape,
+    layers: &Layers,
     touches: &Touches,
     steps: &[Step],
 ) -> Result<Plan, Outcome>
-    requires lists { length touches.now ≡ iterations shape.now.loops }
-    requires inside { (u e : ℕ) → IsTouched (touches_at touches.now u) e → e < cells_in shape.now.arrays }
+    requires parts { BelongTogether layers.now touches.now shape.now }
     requires fitting { All (IsStepFor shape.now 0) steps.now }
+    requires once { TilesOnce steps.now }
     ensures answer { (bundle : Bundle) → plans (((bundle, shape.now), touches.now), steps.now) result }
     ensures plan { IfOk result (IsPlanOf touches.now shape.now) }
     ensures of_bytes { IfErr result IsOfBytes }
 {
-    let layers = match Layers::build(alloc, touches, shape) {
-        Ok(layers) => layers,
-        Err(NoMemory) => return Err(Outcome::Memory),
-    };
-    match plan(alloc, &layers, touches, shape, steps) {
+    match plan(alloc, layers, touches, shape, steps) {
         Ok(plan) => Ok(plan),
         Err(fault) => Err(plan_refusal(fault)),
+    }
+}
+
+/// The text of the plan. Linear in the text, and what the order of the tiles costs.
+fn show(
+    alloc: Global,
+    shape: &Shape,
+    layers: &Layers,
+    touches: &Touches,
+    plan: &Plan,
+) -> Result<Vec<u8>, Outcome>
+    requires parts { BelongTogether layers.now touches.now shape.now }
+    requires plan { IsPlanOf touches.now shape.now plan.now }
+    ensures text { IfOk result (λ text. IsPlanText touches.now shape.now plan.now text.items) }
+    ensures refused { IfErr result (λ refusal. refusal ≡ Memory) }
+{
+    let order = match tile_order(alloc, layers, shape, plan.places(), plan.tiles()) {
+        Ok(order) => order,
+        Err(NoMemory) => return Err(Outcome::Memory),
+    };
+    match plan_text(alloc, shape, plan, &order) {
+        Ok(text) => Ok(text),
+        Err(NoMemory) => Err(Outcome::Memory),
     }
 }
 
@@ -146,7 +186,7 @@ fn run_units(
 
 /// Runs a bundle's units as the plan says, and gives the text of the arrays. Linear in the visits and the cells, and what
 /// ordering the units costs.
-pub fn execute(
+fn execute(
     alloc: Global,
     mut bundle: Bundle,
     shape: &Shape,
@@ -175,5 +215,29 @@ pub fn execute(
     match arrays_text(alloc, &bundle.store) {
         Ok(text) => Ok(text),
         Err(NoMemory) => Err(Outcome::Memory),
+    }
+}
+
+/// What the command does with the plan: it runs the units and gives the text of the arrays, or gives the text of the plan.
+pub fn finish(
+    alloc: Global,
+    asked: Asked,
+    bundle: Bundle,
+    shape: &Shape,
+    layers: &Layers,
+    touches: &Touches,
+    plan: &Plan,
+) -> Result<Vec<u8>, Outcome>
+    requires kept { IsKept bundle }
+    requires shape { IsShapeOf bundle.env bundle.kernel shape.now }
+    requires walked { IsAccessAnswer bundle.env bundle.kernel shape.now.steps (Ok touches.now) }
+    requires parts { BelongTogether layers.now touches.now shape.now }
+    requires plan { IsPlanOf touches.now shape.now plan.now }
+    ensures text { IfOk result (λ text. (steps : List Step) → finishes asked ((((bundle, shape.now), touches.now), steps), plan.now) (Ok text.items)) }
+    ensures refused { IfErr result (λ refusal. refusal ≡ Memory) }
+{
+    match asked {
+        Asked::Run => execute(alloc, bundle, shape, touches, plan),
+        Asked::Plan => show(alloc, shape, layers, touches, plan),
     }
 }
