@@ -1,5 +1,5 @@
 use Rattle.std.proofs.Common.{List, length, refl, inl, inr, ap, sym, ◌∙◌}
-use Rattle.spf_space.specs.Layout.{cells_in, iterations}
+use Rattle.spf_space.specs.Layout.{iterations}
 use Rattle.spf_space.specs.declared.shape.Shape.{Shape}
 use Rattle.spf_input.specs.declared.reading.Bundle.{Bundle}
 use Rattle.spf_plan.specs.Planned.{Planned}
@@ -7,19 +7,17 @@ use Rattle.spf_plan.specs.declared.plan_fault.PlanFault.TheVariants as plan_is
 use Rattle.spf_script.specs.declared.resolved.Step.{Step}
 use Rattle.spf_touch.specs.declared.touch.Touch.{Touch}
 use Rattle.spf_top.proofs.Complete.{out_of_memory}
-use Rattle.spf_top.proofs.Shapes.{inside_of, lists_of}
 use Rattle.spf_top.proofs.commands.carry_out.Goals as goal
 
 pub layered-requires-clause-lists : goal.layered-requires-clause-lists
 layered-requires-clause-lists c =
     let walked = c.in-Ok.ensures.answer in
-    ap length walked.1 ∙ lists_of c.args.bundle.env c.args.bundle.kernel c.args.shape.now.steps ∙ ap iterations (sym c.requires.shape.loops)
+    ap length walked.1 ∙ c.touched_elements_are_cells.ensures.lists c.args.bundle.env c.args.bundle.kernel c.args.shape.now.steps ∙ ap iterations (sym c.requires.shape.loops)
 
 pub layered-requires-clause-inside : goal.layered-requires-clause-inside
-layered-requires-clause-inside c u e touched =
+layered-requires-clause-inside c =
     let walked = c.in-Ok.ensures.answer in
-    let all = c.touched_elements_are_cells.ensures c.args.bundle.env c.args.bundle.kernel c.args.shape.now.steps walked.0 in
-    inside_of (cells_in c.args.shape.now.arrays) c.in-Ok.touches (rw (walked.1, c.requires.shape.arrays) all) u e touched
+    rw (walked.1, c.requires.shape.arrays) (c.touched_elements_are_cells.ensures.inside c.args.bundle.env c.args.bundle.kernel c.args.shape.now.steps walked.0)
 
 pub returns-in-Err-resolved-clause-refused : goal.returns-in-Err-resolved-clause-refused
 returns-in-Err-resolved-clause-refused c =
