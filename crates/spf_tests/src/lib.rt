@@ -9,4 +9,6 @@
 #[cfg(test)]
 mod input;
 #[cfg(test)]
+mod plans;
+#[cfg(test)]
 mod top;

@@ -316,15 +316,11 @@ const SCRIPTS: [(&[u8], u8, &[u8]); 27] = [
     (b"tilepack x, z;", 9, b"script: step 1 rule 4\n"),
     (b"bucket a by x size 1;", 0, b""),
     (b"bucket a by x size 0;", 9, b"script: step 1 rule 5\n"),
-    (b"tile a at 0 seed block 1;", 14, b"later\n"),
+    (b"tile a at 0 seed block 1;", 0, b""),
     (b"tile a at 0 seed spread 0;", 9, b"script: step 1 rule 5\n"),
-    (b"tile a at 1 seed block 2;", 14, b"later\n"),
+    (b"tile a at 1 seed block 2;", 0, b""),
     (b"tile a at 2 seed block 2;", 9, b"script: step 1 rule 6\n"),
-    (
-        b"lexgroup a by x; tile a at 0 seed block 1;",
-        14,
-        b"later\n",
-    ),
+    (b"lexgroup a by x; tile a at 0 seed block 1;", 0, b""),
     (
         b"tile a at 0 seed block 1; lexgroup a by x;",
         9,
@@ -343,7 +339,7 @@ const SCRIPTS: [(&[u8], u8, &[u8]); 27] = [
         b"script: step 1 rule 8\n",
     ),
     (b"tile a at 0 seed plug 0 1;", 9, b"script: step 1 rule 9\n"),
-    (b"tile a at 0 seed block 1024;", 14, b"later\n"),
+    (b"tile a at 0 seed block 1024;", 0, b""),
     (b"tile a at 0 seed block 1025;", 12, b"limit: tiles 1025\n"),
     (
         b"tile a at 0 seed block 1025; cpack x by a;",
