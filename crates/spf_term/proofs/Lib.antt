@@ -1,4 +1,8 @@
 pub mod Monos
+mod NormalForms
+mod NormalValues
+pub mod Numbers
+mod OrderLaws
 mod Outside
 pub mod Progress
 mod Sizes

@@ -6,6 +6,10 @@
 //! each entry of a table that it reads, in the order of evaluation (`Walks`). `value` is such a walk, which stops at the
 //! first entry outside its table.
 //!
+//! The normal form of a term (`normal` in specs/Normal.antt) has its monomials in order, each atom once, no coefficient 0,
+//! and normal arguments; two laws say that it is normal and keeps the value. `excess` tells where a term passes the number
+//! rule.
+//!
 //! The crate stands on the arithmetic of spf_base and on the kit's lists. Each call is linear in the term, takes no memory,
 //! and recurses as deep as the term nests.
 #![tactic(auto)]
@@ -13,6 +17,9 @@
 mod bounded;
 mod counts;
 mod env;
+mod fault;
+mod normal;
+mod number_rule;
 mod term;
 mod values;
 mod walks;
@@ -20,6 +27,9 @@ mod walks;
 pub use bounded::bounded_terms_are_small;
 pub use counts::applications;
 pub use env::{Env, number_at};
+pub use fault::TermFault;
+pub use normal::{normal_form_is_normal, normal_form_keeps_the_value};
+pub use number_rule::{excess, first_outside, monomials};
 pub use term::{Atom, Mono, Term};
 pub use values::value;
 pub use walks::{Reader, Walked, walk};

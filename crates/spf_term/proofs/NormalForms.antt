@@ -1,0 +1,89 @@
+-- The normal form of a term is normal.
+use Rattle.std.proofs.Common.{◌≡◌, ℤ, pos, ◌+ℤ◌, List, [], ◌∷◌, Bool, true, false, if◌then◌else◌, refl, ap, sym, ◌∙◌, subst}
+use Rattle.std.specs.Bool.{⊤}
+use Rattle.std.specs.List.{AllByRecursion}
+use Rattle.std.specs.Ordering.{int_eq, ordering_reverse}
+use Rattle.std.specs.declared.cmp.Ordering.{Ordering}
+use Rattle.std.specs.declared.cmp.Ordering.TheVariants.{Less, Equal, Greater}
+use Rattle.spf_term.specs.Normal.{AreNormal, AtomIsNormal, IsBefore, IsNormal, added, by_order, kept, normal, normal_atom, normal_monos}
+use Rattle.spf_term.specs.Order.{atom_cmp}
+use Rattle.spf_term.specs.declared.term.Atom.{Atom, Var, Param, App}
+use Rattle.spf_term.specs.declared.term.Mono.{Mono}
+use Rattle.spf_term.specs.declared.term.Term.{Term, Term', roll-Term, out-Term, out-roll-Term, Row_of-Mono, end_of-Mono, more_of-Mono, items-the_row-Mono, items_shown-the_row-Mono-0}
+use Rattle.spf_term.proofs.OrderLaws.{atom_turned, atoms_total}
+
+-- ---- monomials as a list
+
+abbrev IsBeforeAll : Atom → List Mono → Type 0
+IsBeforeAll atom monos = AllByRecursion (λ (mono : Mono). atom_cmp atom mono.atom ≡ Less) monos
+
+abbrev ListIsNormal : List Mono → Type 0
+ListIsNormal [] = ⊤
+ListIsNormal (mono ∷ monos) = (int_eq mono.coef (pos 0) ≡ false) × AtomIsNormal mono.atom × IsBeforeAll mono.atom monos × ListIsNormal monos
+
+row_before : {n : _} (atom : Atom) (row : Row_of-Mono n) → IsBeforeAll atom (items-the_row-Mono n row) → IsBefore atom row
+row_before atom end_of-Mono h = tt
+row_before atom (more_of-Mono coef other others) h = (h.0, row_before atom others h.1)
+
+row_normal : {n : _} (row : Row_of-Mono n) → ListIsNormal (items-the_row-Mono n row) → AreNormal row
+row_normal end_of-Mono h = tt
+row_normal (more_of-Mono coef atom others) h = (h.0, h.1, row_before atom others h.2, row_normal others h.3)
+
+normal_from : (term : Term) → ListIsNormal (out-Term term).monos → IsNormal term
+unfolding out-Term denote.Hole.Carrier.out
+normal_from (Term' shape monos constant) h = row_normal monos (subst ListIsNormal (items_shown-the_row-Mono-0 shape monos) h)
+
+-- ---- a monomial among others
+
+before_later : (a b : Atom) (monos : List Mono) → atom_cmp a b ≡ Less → IsBeforeAll b monos → IsBeforeAll a monos
+before_later a b [] less h = tt
+before_later a b (mono ∷ monos) less h = (atoms_total.trans a b mono.atom less h.0, before_later a b monos less h.1)
+
+module _ (coef : ℤ) (atom : Atom) (monos : List Mono) where
+  before_by : (b : Atom) (none : Bool) → IsBeforeAll b monos → atom_cmp b atom ≡ Less → IsBeforeAll b (if none then monos else record { coef = coef; atom = atom } ∷ monos)
+  before_by b true h less = h
+  before_by b false h less = (less, h)
+
+  kept_before : (b : Atom) → IsBeforeAll b monos → atom_cmp b atom ≡ Less → IsBeforeAll b (kept coef atom monos)
+  kept_before b h less = before_by b (int_eq coef (pos 0)) h less
+
+  normal_by : (none : Bool) → int_eq coef (pos 0) ≡ none → ListIsNormal monos → AtomIsNormal atom → IsBeforeAll atom monos → ListIsNormal (if none then monos else record { coef = coef; atom = atom } ∷ monos)
+  normal_by true is h k l = h
+  normal_by false is h k l = (is, k, l, h)
+
+  kept_normal : ListIsNormal monos → AtomIsNormal atom → IsBeforeAll atom monos → ListIsNormal (kept coef atom monos)
+  kept_normal h k l = normal_by (int_eq coef (pos 0)) refl h k l
+
+ordered : (P : List Mono → Type 0) (order : Ordering) (less equal greater : List Mono) → (order ≡ Less → P less) → (order ≡ Equal → P equal) → (order ≡ Greater → P greater) → P (by_order order less equal greater)
+ordered P Less less equal greater a b c = a refl
+ordered P Equal less equal greater a b c = b refl
+ordered P Greater less equal greater a b c = c refl
+
+added_before : (coef : ℤ) (atom : Atom) (monos : List Mono) (b : Atom) → atom_cmp b atom ≡ Less → IsBeforeAll b monos → IsBeforeAll b (added coef atom monos)
+added_before coef atom [] b less h = kept_before coef atom [] b h less
+added_before coef atom (mono ∷ monos) b less h =
+    ordered (IsBeforeAll b) (atom_cmp atom mono.atom) _ _ _ (λ p. kept_before coef atom (mono ∷ monos) b h less)
+    (λ p. kept_before (coef +ℤ mono.coef) mono.atom monos b h.1 h.0)
+    (λ p. (h.0, added_before coef atom monos b less h.1))
+
+added_normal : (coef : ℤ) (atom : Atom) (monos : List Mono) → ListIsNormal monos → AtomIsNormal atom → ListIsNormal (added coef atom monos)
+added_normal coef atom [] h k = kept_normal coef atom [] h k tt
+added_normal coef atom (mono ∷ monos) h k =
+    ordered ListIsNormal (atom_cmp atom mono.atom) _ _ _ (λ less. kept_normal coef atom (mono ∷ monos) h k (less, before_later atom mono.atom monos less h.2))
+    (λ equal. kept_normal (coef +ℤ mono.coef) mono.atom monos h.3 h.1 h.2)
+    (λ greater. (h.0, h.1, added_before coef atom monos mono.atom (atom_turned mono.atom atom ∙ ap ordering_reverse greater) h.2, added_normal coef atom monos h.3 k))
+
+mutual
+  normal_atom_is : (atom : Atom) → AtomIsNormal (normal_atom atom)
+  normal_atom_is (Var number) = tt
+  normal_atom_is (Param number) = tt
+  normal_atom_is (App fun arg) = normal_is arg
+
+  normal_monos_are : {n : _} (row : Row_of-Mono n) → ListIsNormal (normal_monos row)
+  normal_monos_are end_of-Mono = tt
+  normal_monos_are (more_of-Mono coef atom others) = added_normal coef (normal_atom atom) (normal_monos others) (normal_monos_are others) (normal_atom_is atom)
+
+  pub normal_is : (term : Term) → IsNormal (normal term)
+  normal_is (Term' shape monos constant) =
+      normal_from (roll-Term (record { monos = normal_monos monos; constant = constant }))
+      (subst ListIsNormal (sym (ap (λ term. term.monos) (out-roll-Term (record { monos = normal_monos monos; constant = constant })))) (normal_monos_are monos))
