@@ -1,4 +1,5 @@
 pub mod Monos
+mod Compared
 mod NormalForms
 mod NormalValues
 pub mod Numbers

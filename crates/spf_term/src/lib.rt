@@ -15,11 +15,13 @@
 #![tactic(auto)]
 
 mod bounded;
+mod copies;
 mod counts;
 mod env;
 mod fault;
 mod normal;
 mod number_rule;
+mod order;
 mod term;
 mod values;
 mod walks;
@@ -30,6 +32,7 @@ pub use env::{Env, number_at};
 pub use fault::TermFault;
 pub use normal::{normal_form_is_normal, normal_form_keeps_the_value};
 pub use number_rule::{excess, first_outside, monomials};
+pub use order::compare;
 pub use term::{Atom, Mono, Term};
 pub use values::value;
 pub use walks::{Reader, Walked, walk};
