@@ -4,6 +4,7 @@ use Rattle.std.proofs.lemmas.List.{drop_more}
 use Rattle.spf_term.specs.declared.term.Term.{Term, Term', out-Term, Row_of-Mono, end_of-Mono, more_of-Mono, items-the_row-Mono, items_shown-the_row-Mono-0}
 use Rattle.spf_term.specs.declared.term.Mono.{Mono}
 use Rattle.spf_term.specs.Environment.{Environment}
+use Rattle.spf_term.proofs.Weights.{weighed}
 use Rattle.spf_term.specs.Value.{Entry, applications, sum_applications, atom_applications, value, sum_value, atom_value, entries, sum_entries, atom_entries}
 
 abbrev pub list_applications : List Mono → ℕ
@@ -23,8 +24,7 @@ drop_next monos index mono inside at = drop_more monos index mono inside ∙ ap 
 
 module _ (env : Environment) (variables : List ℤ) where
   abbrev pub list_value : List Mono → ℤ
-  list_value [] = pos 0
-  list_value (mono ∷ monos) = (mono.coef *ℤ atom_value env variables mono.atom) +ℤ list_value monos
+  list_value = weighed (atom_value env variables)
 
   row_value : {n : _} (row : Row_of-Mono n) → sum_value env variables row ≡ list_value (items-the_row-Mono n row)
   row_value end_of-Mono = refl

@@ -14,10 +14,10 @@ use Rattle.spf_term.proofs.OrderLaws.{atom_turned, atoms_total}
 
 -- ---- monomials as a list
 
-abbrev IsBeforeAll : Atom → List Mono → Type 0
+abbrev pub IsBeforeAll : Atom → List Mono → Type 0
 IsBeforeAll atom monos = AllByRecursion (λ (mono : Mono). atom_cmp atom mono.atom ≡ Less) monos
 
-abbrev ListIsNormal : List Mono → Type 0
+abbrev pub ListIsNormal : List Mono → Type 0
 ListIsNormal [] = ⊤
 ListIsNormal (mono ∷ monos) = (int_eq mono.coef (pos 0) ≡ false) × AtomIsNormal mono.atom × IsBeforeAll mono.atom monos × ListIsNormal monos
 
@@ -29,13 +29,25 @@ row_normal : {n : _} (row : Row_of-Mono n) → ListIsNormal (items-the_row-Mono 
 row_normal end_of-Mono h = tt
 row_normal (more_of-Mono coef atom others) h = (h.0, h.1, row_before atom others h.2, row_normal others h.3)
 
-normal_from : (term : Term) → ListIsNormal (out-Term term).monos → IsNormal term
+pub normal_from : (term : Term) → ListIsNormal (out-Term term).monos → IsNormal term
 unfolding out-Term denote.Hole.Carrier.out
 normal_from (Term' shape monos constant) h = row_normal monos (subst ListIsNormal (items_shown-the_row-Mono-0 shape monos) h)
 
 -- ---- a monomial among others
 
-before_later : (a b : Atom) (monos : List Mono) → atom_cmp a b ≡ Less → IsBeforeAll b monos → IsBeforeAll a monos
+before_in_row : {n : _} (atom : Atom) (row : Row_of-Mono n) → IsBefore atom row → IsBeforeAll atom (items-the_row-Mono n row)
+before_in_row atom end_of-Mono h = tt
+before_in_row atom (more_of-Mono coef other others) h = (h.0, before_in_row atom others h.1)
+
+normal_in_row : {n : _} (row : Row_of-Mono n) → AreNormal row → ListIsNormal (items-the_row-Mono n row)
+normal_in_row end_of-Mono h = tt
+normal_in_row (more_of-Mono coef atom others) h = (h.0, h.1, before_in_row atom others h.2, normal_in_row others h.3)
+
+pub normal_list : (term : Term) → IsNormal term → ListIsNormal (out-Term term).monos
+unfolding out-Term denote.Hole.Carrier.out
+normal_list (Term' shape monos constant) h = subst ListIsNormal (sym (items_shown-the_row-Mono-0 shape monos)) (normal_in_row monos h)
+
+pub before_later : (a b : Atom) (monos : List Mono) → atom_cmp a b ≡ Less → IsBeforeAll b monos → IsBeforeAll a monos
 before_later a b [] less h = tt
 before_later a b (mono ∷ monos) less h = (atoms_total.trans a b mono.atom less h.0, before_later a b monos less h.1)
 
@@ -54,7 +66,7 @@ module _ (coef : ℤ) (atom : Atom) (monos : List Mono) where
   kept_normal : ListIsNormal monos → AtomIsNormal atom → IsBeforeAll atom monos → ListIsNormal (kept coef atom monos)
   kept_normal h k l = normal_by (int_eq coef (pos 0)) refl h k l
 
-ordered : (P : List Mono → Type 0) (order : Ordering) (less equal greater : List Mono) → (order ≡ Less → P less) → (order ≡ Equal → P equal) → (order ≡ Greater → P greater) → P (by_order order less equal greater)
+pub ordered : (P : List Mono → Type 0) (order : Ordering) (less equal greater : List Mono) → (order ≡ Less → P less) → (order ≡ Equal → P equal) → (order ≡ Greater → P greater) → P (by_order order less equal greater)
 ordered P Less less equal greater a b c = a refl
 ordered P Equal less equal greater a b c = b refl
 ordered P Greater less equal greater a b c = c refl
@@ -66,7 +78,7 @@ added_before coef atom (mono ∷ monos) b less h =
     (λ p. kept_before (coef +ℤ mono.coef) mono.atom monos b h.1 h.0)
     (λ p. (h.0, added_before coef atom monos b less h.1))
 
-added_normal : (coef : ℤ) (atom : Atom) (monos : List Mono) → ListIsNormal monos → AtomIsNormal atom → ListIsNormal (added coef atom monos)
+pub added_normal : (coef : ℤ) (atom : Atom) (monos : List Mono) → ListIsNormal monos → AtomIsNormal atom → ListIsNormal (added coef atom monos)
 added_normal coef atom [] h k = kept_normal coef atom [] h k tt
 added_normal coef atom (mono ∷ monos) h k =
     ordered ListIsNormal (atom_cmp atom mono.atom) _ _ _ (λ less. kept_normal coef atom (mono ∷ monos) h k (less, before_later atom mono.atom monos less h.2))
@@ -74,7 +86,7 @@ added_normal coef atom (mono ∷ monos) h k =
     (λ greater. (h.0, h.1, added_before coef atom monos mono.atom (atom_turned mono.atom atom ∙ ap ordering_reverse greater) h.2, added_normal coef atom monos h.3 k))
 
 mutual
-  normal_atom_is : (atom : Atom) → AtomIsNormal (normal_atom atom)
+  pub normal_atom_is : (atom : Atom) → AtomIsNormal (normal_atom atom)
   normal_atom_is (Var number) = tt
   normal_atom_is (Param number) = tt
   normal_atom_is (App fun arg) = normal_is arg

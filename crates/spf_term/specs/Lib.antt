@@ -5,3 +5,4 @@ pub mod NumberRule
 pub mod Order
 pub mod Value
 pub mod Walk
+pub mod Wide

@@ -24,6 +24,11 @@ added coef atom [] = kept coef atom []
 added coef atom (mono ∷ monos) =
     by_order (atom_cmp atom mono.atom) (kept coef atom (mono ∷ monos)) (kept (coef +ℤ mono.coef) mono.atom monos) (mono ∷ added coef atom monos)
 
+-- monomials with normal atoms in order, those of one atom added
+abbrev pub all_added : List Mono → List Mono
+all_added [] = []
+all_added (mono ∷ monos) = added mono.coef mono.atom (all_added monos)
+
 -- monomials in order, each atom once, no coefficient 0, and normal arguments
 abbrev mutual
   pub normal : Term → Term

@@ -19,12 +19,14 @@ mod copies;
 mod counts;
 mod env;
 mod fault;
+mod narrow;
 mod normal;
 mod number_rule;
 mod order;
 mod term;
 mod values;
 mod walks;
+mod wide;
 
 pub use bounded::bounded_terms_are_small;
 pub use counts::applications;

@@ -11,7 +11,7 @@ use crate::term::{Atom, Mono, Term};
 const MOST_MONOMIALS: u64 = 16_384;
 
 /// The greatest distance from 0 of a coefficient or constant.
-const LARGEST: u64 = 1 << 62;
+pub(crate) const LARGEST: u64 = 1 << 62;
 
 /// The atom's monomials, nested ones counted, as `monomials` counts them.
 #[cycle(monomials)]
