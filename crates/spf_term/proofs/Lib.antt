@@ -1,8 +1,10 @@
 pub mod Monos
+mod Collected
 mod Compared
 pub mod Exact
 pub mod NormalForms
 mod NormalValues
+mod Narrowed
 pub mod Numbers
 mod OrderLaws
 mod Outside

@@ -19,8 +19,8 @@ pub applications_are : (term : Term) → applications term ≡ list_applications
 unfolding out-Term denote.Hole.Carrier.out
 applications_are (Term' shape monos constant) = row_applications monos ∙ ap list_applications (sym (items_shown-the_row-Mono-0 shape monos))
 
-pub drop_next : (monos : List Mono) (index : ℕ) (mono : Mono) → index < length monos → mono ≡ get_or monos index mono → drop index monos ≡ mono ∷ drop (index + 1) monos
-drop_next monos index mono inside at = drop_more monos index mono inside ∙ ap (λ (first : Mono). first ∷ drop (index + 1) monos) (sym at)
+pub drop_next : {X : Type 0} (items : List X) (index : ℕ) (item : X) → index < length items → item ≡ get_or items index item → drop index items ≡ item ∷ drop (index + 1) items
+drop_next {X} items index item inside at = drop_more items index item inside ∙ ap (λ (first : X). first ∷ drop (index + 1) items) (sym at)
 
 module _ (env : Environment) (variables : List ℤ) where
   abbrev pub list_value : List Mono → ℤ

@@ -5,7 +5,7 @@ use Rattle.std.specs.List.{AllByRecursion}
 use Rattle.std.specs.Ordering.{int_eq, ordering_reverse}
 use Rattle.std.specs.declared.cmp.Ordering.{Ordering}
 use Rattle.std.specs.declared.cmp.Ordering.TheVariants.{Less, Equal, Greater}
-use Rattle.spf_term.specs.Normal.{AreNormal, AtomIsNormal, IsBefore, IsNormal, added, by_order, kept, normal, normal_atom, normal_monos}
+use Rattle.spf_term.specs.Normal.{AllAtoms, AreNormal, AtomIsNormal, IsBefore, IsBeforeAll, IsNormal, ListIsNormal, added, by_order, kept, normal, normal_atom, normal_monos}
 use Rattle.spf_term.specs.Order.{atom_cmp}
 use Rattle.spf_term.specs.declared.term.Atom.{Atom, Var, Param, App}
 use Rattle.spf_term.specs.declared.term.Mono.{Mono}
@@ -13,13 +13,6 @@ use Rattle.spf_term.specs.declared.term.Term.{Term, Term', roll-Term, out-Term, 
 use Rattle.spf_term.proofs.OrderLaws.{atom_turned, atoms_total}
 
 -- ---- monomials as a list
-
-abbrev pub IsBeforeAll : Atom → List Mono → Type 0
-IsBeforeAll atom monos = AllByRecursion (λ (mono : Mono). atom_cmp atom mono.atom ≡ Less) monos
-
-abbrev pub ListIsNormal : List Mono → Type 0
-ListIsNormal [] = ⊤
-ListIsNormal (mono ∷ monos) = (int_eq mono.coef (pos 0) ≡ false) × AtomIsNormal mono.atom × IsBeforeAll mono.atom monos × ListIsNormal monos
 
 row_before : {n : _} (atom : Atom) (row : Row_of-Mono n) → IsBeforeAll atom (items-the_row-Mono n row) → IsBefore atom row
 row_before atom end_of-Mono h = tt
@@ -51,14 +44,24 @@ pub before_later : (a b : Atom) (monos : List Mono) → atom_cmp a b ≡ Less �
 before_later a b [] less h = tt
 before_later a b (mono ∷ monos) less h = (atoms_total.trans a b mono.atom less h.0, before_later a b monos less h.1)
 
+pub ordered : (P : List Mono → Type 0) (order : Ordering) (less equal greater : List Mono) → (order ≡ Less → P less) → (order ≡ Equal → P equal) → (order ≡ Greater → P greater) → P (by_order order less equal greater)
+ordered P Less less equal greater a b c = a refl
+ordered P Equal less equal greater a b c = b refl
+ordered P Greater less equal greater a b c = c refl
+
+module _ (P : Atom → Type 0) where
+  each_by : (coef : ℤ) (atom : Atom) (monos : List Mono) (none : Bool) → AllAtoms P monos → P atom → AllAtoms P (if none then monos else record { coef = coef; atom = atom } ∷ monos)
+  each_by coef atom monos true h is = h
+  each_by coef atom monos false h is = (is, h)
+
+  pub added_each : (coef : ℤ) (atom : Atom) (monos : List Mono) → AllAtoms P monos → P atom → AllAtoms P (added coef atom monos)
+  added_each coef atom [] h is = each_by coef atom [] (int_eq coef (pos 0)) h is
+  added_each coef atom (mono ∷ monos) h is =
+      ordered (AllAtoms P) (atom_cmp atom mono.atom) _ _ _ (λ p. each_by coef atom (mono ∷ monos) (int_eq coef (pos 0)) h is)
+      (λ p. each_by (coef +ℤ mono.coef) mono.atom monos (int_eq (coef +ℤ mono.coef) (pos 0)) h.1 h.0)
+      (λ p. (h.0, added_each coef atom monos h.1 is))
+
 module _ (coef : ℤ) (atom : Atom) (monos : List Mono) where
-  before_by : (b : Atom) (none : Bool) → IsBeforeAll b monos → atom_cmp b atom ≡ Less → IsBeforeAll b (if none then monos else record { coef = coef; atom = atom } ∷ monos)
-  before_by b true h less = h
-  before_by b false h less = (less, h)
-
-  kept_before : (b : Atom) → IsBeforeAll b monos → atom_cmp b atom ≡ Less → IsBeforeAll b (kept coef atom monos)
-  kept_before b h less = before_by b (int_eq coef (pos 0)) h less
-
   normal_by : (none : Bool) → int_eq coef (pos 0) ≡ none → ListIsNormal monos → AtomIsNormal atom → IsBeforeAll atom monos → ListIsNormal (if none then monos else record { coef = coef; atom = atom } ∷ monos)
   normal_by true is h k l = h
   normal_by false is h k l = (is, k, l, h)
@@ -66,24 +69,12 @@ module _ (coef : ℤ) (atom : Atom) (monos : List Mono) where
   kept_normal : ListIsNormal monos → AtomIsNormal atom → IsBeforeAll atom monos → ListIsNormal (kept coef atom monos)
   kept_normal h k l = normal_by (int_eq coef (pos 0)) refl h k l
 
-pub ordered : (P : List Mono → Type 0) (order : Ordering) (less equal greater : List Mono) → (order ≡ Less → P less) → (order ≡ Equal → P equal) → (order ≡ Greater → P greater) → P (by_order order less equal greater)
-ordered P Less less equal greater a b c = a refl
-ordered P Equal less equal greater a b c = b refl
-ordered P Greater less equal greater a b c = c refl
-
-added_before : (coef : ℤ) (atom : Atom) (monos : List Mono) (b : Atom) → atom_cmp b atom ≡ Less → IsBeforeAll b monos → IsBeforeAll b (added coef atom monos)
-added_before coef atom [] b less h = kept_before coef atom [] b h less
-added_before coef atom (mono ∷ monos) b less h =
-    ordered (IsBeforeAll b) (atom_cmp atom mono.atom) _ _ _ (λ p. kept_before coef atom (mono ∷ monos) b h less)
-    (λ p. kept_before (coef +ℤ mono.coef) mono.atom monos b h.1 h.0)
-    (λ p. (h.0, added_before coef atom monos b less h.1))
-
 pub added_normal : (coef : ℤ) (atom : Atom) (monos : List Mono) → ListIsNormal monos → AtomIsNormal atom → ListIsNormal (added coef atom monos)
 added_normal coef atom [] h k = kept_normal coef atom [] h k tt
 added_normal coef atom (mono ∷ monos) h k =
     ordered ListIsNormal (atom_cmp atom mono.atom) _ _ _ (λ less. kept_normal coef atom (mono ∷ monos) h k (less, before_later atom mono.atom monos less h.2))
     (λ equal. kept_normal (coef +ℤ mono.coef) mono.atom monos h.3 h.1 h.2)
-    (λ greater. (h.0, h.1, added_before coef atom monos mono.atom (atom_turned mono.atom atom ∙ ap ordering_reverse greater) h.2, added_normal coef atom monos h.3 k))
+    (λ greater. (h.0, h.1, added_each (λ other. atom_cmp mono.atom other ≡ Less) coef atom monos h.2 (atom_turned mono.atom atom ∙ ap ordering_reverse greater), added_normal coef atom monos h.3 k))
 
 mutual
   pub normal_atom_is : (atom : Atom) → AtomIsNormal (normal_atom atom)

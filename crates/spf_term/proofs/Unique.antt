@@ -8,12 +8,12 @@ use Rattle.std.specs.List.{AllByRecursion}
 use Rattle.std.specs.Ordering.{int_eq, ordering_reverse}
 use Rattle.std.specs.declared.cmp.Ordering.{Ordering}
 use Rattle.std.specs.declared.cmp.Ordering.TheVariants.{Less, Equal, Greater}
-use Rattle.spf_term.specs.Normal.{AtomIsNormal, added, all_added, by_order}
+use Rattle.spf_term.specs.Normal.{AllAtoms, AtomIsNormal, IsBeforeAll, ListIsNormal, added, all_added, by_order}
 use Rattle.spf_term.specs.Order.{atom_cmp}
 use Rattle.spf_term.specs.declared.term.Atom.{Atom}
 use Rattle.spf_term.specs.declared.term.Mono.{Mono}
 use Rattle.spf_term.proofs.Exact.{exact_atom}
-use Rattle.spf_term.proofs.NormalForms.{IsBeforeAll, ListIsNormal, added_normal, before_later}
+use Rattle.spf_term.proofs.NormalForms.{added_normal, before_later}
 use Rattle.spf_term.proofs.OrderLaws.{atom_turned, atoms_total}
 use Rattle.spf_term.proofs.Weights.{added_weighed, weighed}
 
@@ -64,10 +64,7 @@ unique (x ∷ xs) (y ∷ ys) h k alike = unique_by x y xs ys h k alike (unique x
 
 -- ---- all added
 
-abbrev pub HaveNormalAtoms : List Mono → Type 0
-HaveNormalAtoms monos = AllByRecursion (λ (mono : Mono). AtomIsNormal mono.atom) monos
-
-pub all_normal : (monos : List Mono) → HaveNormalAtoms monos → ListIsNormal (all_added monos)
+pub all_normal : (monos : List Mono) → AllAtoms AtomIsNormal monos → ListIsNormal (all_added monos)
 all_normal [] h = tt
 all_normal (mono ∷ monos) h = added_normal mono.coef mono.atom (all_added monos) (all_normal monos h.1) h.0
 
@@ -76,5 +73,5 @@ all_weighed weight [] = refl
 all_weighed weight (mono ∷ monos) = added_weighed weight mono.coef mono.atom (all_added monos) ∙ ap (λ (more : ℤ). (mono.coef *ℤ weight mono.atom) +ℤ more) (all_weighed weight monos)
 
 -- a normal list that weighs what monomials do is what they add up to
-pub added_up : (made monos : List Mono) → ListIsNormal made → HaveNormalAtoms monos → Alike made monos → made ≡ all_added monos
+pub added_up : (made monos : List Mono) → ListIsNormal made → AllAtoms AtomIsNormal monos → Alike made monos → made ≡ all_added monos
 added_up made monos h k alike = unique made (all_added monos) h (all_normal monos k) (λ weight. alike weight ∙ sym (all_weighed weight monos))

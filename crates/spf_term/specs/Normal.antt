@@ -1,5 +1,6 @@
 -- The normal form of a term.
 use Rattle.std.specs.Prelude.{◌≡◌, ℤ, pos, ◌+ℤ◌, List, [], ◌∷◌, if◌then◌else◌, false, ⊤}
+use Rattle.std.specs.List.{AllByRecursion}
 use Rattle.std.specs.declared.cmp.Ordering.{Ordering}
 use Rattle.std.specs.declared.cmp.Ordering.TheVariants.{Less, Equal, Greater}
 use Rattle.std.specs.Ordering.{int_eq}
@@ -60,3 +61,17 @@ abbrev mutual
   AtomIsNormal (Var number) = ⊤
   AtomIsNormal (Param number) = ⊤
   AtomIsNormal (App fun arg) = IsNormal arg
+
+-- ---- the same of a list of monomials
+
+-- something holds of each atom
+abbrev pub AllAtoms : (Atom → Type 0) → List Mono → Type 0
+AllAtoms P monos = AllByRecursion (λ (mono : Mono). P mono.atom) monos
+
+-- the atom is before each of theirs
+abbrev pub IsBeforeAll : Atom → List Mono → Type 0
+IsBeforeAll atom monos = AllAtoms (λ other. atom_cmp atom other ≡ Less) monos
+
+abbrev pub ListIsNormal : List Mono → Type 0
+ListIsNormal [] = ⊤
+ListIsNormal (mono ∷ monos) = (int_eq mono.coef (pos 0) ≡ false) × AtomIsNormal mono.atom × IsBeforeAll mono.atom monos × ListIsNormal monos

@@ -1,6 +1,6 @@
 -- Terms whose numbers have 128 bits.
-use Rattle.std.specs.Prelude.{◌≡◌, ℕ, ℤ, unsigned_abs, Option, None, Some, List, [], ◌∷◌, Result, Ok, Err, ⊤}
-use Rattle.std.specs.List.{find, sum_by}
+use Rattle.std.specs.Prelude.{◌≡◌, ℕ, ◌+◌, ℤ, unsigned_abs, Option, None, Some, List, [], ◌∷◌, Result, Ok, Err, ⊤}
+use Rattle.std.specs.List.{find}
 use Rattle.spf_term.specs.Normal.{by_order}
 use Rattle.spf_term.specs.NumberRule.{is_outside}
 use Rattle.spf_term.specs.Order.{atom_cmp}
@@ -31,8 +31,12 @@ abbrev pub plain_mono : WideMono → Mono
 plain_mono mono = record { coef = mono.coef; atom = plain_atom mono.atom }
 
 -- the sum of the distances from 0 of the coefficients of an atom
+abbrev pub load_of : Atom → Mono → ℕ
+load_of atom mono = by_order (atom_cmp atom mono.atom) 0 (unsigned_abs mono.coef) 0
+
 abbrev pub load : Atom → List Mono → ℕ
-load atom monos = sum_by (λ (mono : Mono). by_order (atom_cmp atom mono.atom) 0 (unsigned_abs mono.coef) 0) monos
+load atom [] = 0
+load atom (mono ∷ monos) = load_of atom mono + load atom monos
 
 -- what has these numbers is made, or the first number that is too large is told
 abbrev pub IsNarrowed : {A : Type 0} → List ℤ → A → Result A TermFault → Type 0

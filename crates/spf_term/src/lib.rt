@@ -15,6 +15,7 @@
 #![tactic(auto)]
 
 mod bounded;
+mod collect;
 mod copies;
 mod counts;
 mod env;
