@@ -4,6 +4,7 @@ mod Compared
 pub mod Exact
 pub mod NormalForms
 mod NormalValues
+mod Gathering
 mod Narrowed
 pub mod Numbers
 mod OrderLaws
