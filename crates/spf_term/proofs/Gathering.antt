@@ -21,10 +21,8 @@ use Rattle.spf_term.proofs.Collected.{NotLess, added_load, load_append, load_per
 use Rattle.spf_term.proofs.NormalForms.{added_each, added_normal}
 use Rattle.spf_term.proofs.OrderLaws.{atoms_total}
 use Rattle.spf_term.proofs.Unique.{added_up}
+use Rattle.spf_term.proofs.Wides.{HasNormalAtom}
 use Rattle.spf_term.proofs.Weights.{added_weighed, weighed, weighed_append, weighed_permutation}
-
-abbrev pub HasNormalAtom : WideMono → Type 0
-HasNormalAtom mono = AtomIsNormal (plain_atom mono.atom)
 
 -- no monomial has its atom before that of a later one
 abbrev pub Falls : List WideMono → Type 0

@@ -10,6 +10,7 @@ pub mod Numbers
 mod OrderLaws
 mod Outside
 pub mod Progress
+mod Rule
 mod Sizes
 mod Unique
 pub mod WalkParts

@@ -1,11 +1,11 @@
 -- The normal form of a term is normal.
-use Rattle.std.proofs.Common.{◌≡◌, ℤ, pos, ◌+ℤ◌, List, [], ◌∷◌, Bool, true, false, if◌then◌else◌, refl, ap, sym, ◌∙◌, subst}
+use Rattle.std.proofs.Common.{◌≡◌, ℤ, pos, ◌+ℤ◌, List, [], ◌∷◌, Bool, true, false, if◌then◌else◌, map, refl, ap, sym, ◌∙◌, subst}
 use Rattle.std.specs.Bool.{⊤}
 use Rattle.std.specs.List.{AllByRecursion}
 use Rattle.std.specs.Ordering.{int_eq, ordering_reverse}
 use Rattle.std.specs.declared.cmp.Ordering.{Ordering}
 use Rattle.std.specs.declared.cmp.Ordering.TheVariants.{Less, Equal, Greater}
-use Rattle.spf_term.specs.Normal.{AllAtoms, AreNormal, AtomIsNormal, IsBefore, IsBeforeAll, IsNormal, ListIsNormal, added, by_order, kept, normal, normal_atom, normal_monos}
+use Rattle.spf_term.specs.Normal.{AllAtoms, AreNormal, AtomIsNormal, IsBefore, IsBeforeAll, IsNormal, ListIsNormal, added, all_added, by_order, kept, normal, normal_atom, normal_monos}
 use Rattle.spf_term.specs.Order.{atom_cmp}
 use Rattle.spf_term.specs.declared.term.Atom.{Atom, Var, Param, App}
 use Rattle.spf_term.specs.declared.term.Mono.{Mono}
@@ -90,3 +90,20 @@ mutual
   normal_is (Term' shape monos constant) =
       normal_from (roll-Term (record { monos = normal_monos monos; constant = constant }))
       (subst ListIsNormal (sym (ap (λ term. term.monos) (out-roll-Term (record { monos = normal_monos monos; constant = constant })))) (normal_monos_are monos))
+
+-- ---- the normal monomials, as a list
+
+abbrev pub normal_mono : Mono → Mono
+normal_mono mono = record { coef = mono.coef; atom = normal_atom mono.atom }
+
+pub each_normal : (monos : List Mono) → AllAtoms AtomIsNormal (map normal_mono monos)
+each_normal [] = tt
+each_normal (mono ∷ monos) = (normal_atom_is mono.atom, each_normal monos)
+
+row_normal_monos : {n : _} (row : Row_of-Mono n) → normal_monos row ≡ all_added (map normal_mono (items-the_row-Mono n row))
+row_normal_monos end_of-Mono = refl
+row_normal_monos (more_of-Mono coef atom others) = ap (added coef (normal_atom atom)) (row_normal_monos others)
+
+pub normal_term_is : (term : Term) → normal term ≡ roll-Term (record { monos = all_added (map normal_mono (out-Term term).monos); constant = (out-Term term).constant })
+unfolding out-Term denote.Hole.Carrier.out
+normal_term_is (Term' shape monos constant) = ap (λ (of : List Mono). roll-Term (record { monos = of; constant = constant })) (row_normal_monos monos ∙ ap (λ of. all_added (map normal_mono of)) (sym (items_shown-the_row-Mono-0 shape monos)))

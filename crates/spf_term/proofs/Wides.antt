@@ -1,16 +1,22 @@
 -- Terms of wide numbers, said of their monomials as lists.
-use Rattle.std.proofs.Common.{◌≡◌, ℕ, ◌<◌, ℤ, List, [], ◌∷◌, length, get_or, map, refl, ap, sym, ◌∙◌}
-use Rattle.std.proofs.lemmas.List.{get_or-map}
+use Rattle.std.proofs.Common.{◌≡◌, ℕ, ◌+◌, ◌<◌, ℤ, List, [], ◌∷◌, ◌++◌, length, get_or, map, take, refl, ap, sym, ◌∙◌, subst}
+use Rattle.std.proofs.lemmas.List.{get_or-map, map-append, take_more}
+use Rattle.std.proofs.lemmas.List.Elements.{All-from_recursion}
+use Rattle.std.specs.List.{All, AllByRecursion}
 use Rattle.std.specs.Cmp.Lexicographic.{slice_cmp}
 use Rattle.std.specs.Ordering.{int_cmp, ordering_then}
 use Rattle.std.specs.declared.cmp.Ordering.{Ordering}
+use Rattle.spf_term.specs.Normal.{AllAtoms, AtomIsNormal}
 use Rattle.spf_term.specs.Order.{term_cmp}
 use Rattle.spf_term.specs.Wide.{plain, plain_mono, plain_monos, plain_atom}
 use Rattle.spf_term.specs.declared.term.Mono.{Mono}
 use Rattle.spf_term.specs.declared.term.Term.{Term, out-Term, roll-Term, out-roll-Term}
 use Rattle.spf_term.specs.declared.wide.WideMono.{WideMono}
-use Rattle.spf_term.specs.declared.wide.WideTerm.{WideTerm, WideTerm', out-WideTerm, Row_of-WideMono, end_of-WideMono, more_of-WideMono, items-the_row-WideMono, items_shown-the_row-WideMono-0}
+use Rattle.spf_term.specs.declared.wide.WideTerm.{WideTerm, WideTerm', out-WideTerm, roll-WideTerm, out-roll-WideTerm, Row_of-WideMono, end_of-WideMono, more_of-WideMono, items-the_row-WideMono, items_shown-the_row-WideMono-0}
 use Rattle.spf_term.proofs.Compared.{mono_cmp, term_cmp_is}
+
+abbrev pub HasNormalAtom : WideMono → Type 0
+HasNormalAtom mono = AtomIsNormal (plain_atom mono.atom)
 
 abbrev pub sum_of : List Mono → ℤ → Term
 sum_of monos constant = roll-Term (record { monos = monos; constant = constant })
@@ -37,6 +43,23 @@ plain_constant_is term = ap (λ of. (out-Term of).constant) (plain_is term) ∙ 
 
 pub plain_at : (monos : List WideMono) (index : ℕ) (mono : WideMono) → index < length monos → mono ≡ get_or monos index mono → plain_mono mono ≡ get_or (map plain_mono monos) index (plain_mono mono)
 plain_at monos index mono inside is = ap plain_mono is ∙ sym (get_or-map plain_mono monos index mono (plain_mono mono) inside)
+
+pub plain_made : (monos : List WideMono) (constant : ℤ) → plain (roll-WideTerm (record { monos = monos; constant = constant })) ≡ sum_of (map plain_mono monos) constant
+plain_made monos constant = plain_is (roll-WideTerm (record { monos = monos; constant = constant })) ∙ ap (λ term. sum_of (map plain_mono term.monos) term.constant) (out-roll-WideTerm (record { monos = monos; constant = constant }))
+
+plain_atoms : (monos : List WideMono) → AllAtoms AtomIsNormal (map plain_mono monos) → AllByRecursion HasNormalAtom monos
+plain_atoms [] h = tt
+plain_atoms (mono ∷ monos) h = (h.0, plain_atoms monos h.1)
+
+pub normal_atoms : (monos : List WideMono) (others : List Mono) → map plain_mono monos ≡ others → AllAtoms AtomIsNormal others → All HasNormalAtom monos
+normal_atoms monos others are h = All-from_recursion HasNormalAtom monos (plain_atoms monos (subst (AllAtoms AtomIsNormal) (sym are) h))
+
+-- one more monomial, for the one at a place of a list
+pub one_more : {X : Type 0} (f : X → Mono) (items : List X) (index : ℕ) (item : X) → index < length items → item ≡ get_or items index item
+    → (monos made : List WideMono) (mono : WideMono) → made ≡ monos ++ mono ∷ [] → plain_mono mono ≡ f item → map plain_mono monos ≡ map f (take index items) → map plain_mono made ≡ map f (take (index + 1) items)
+one_more {X} f items index item inside at monos made mono pushed is before =
+    ap (map plain_mono) pushed ∙ map-append plain_mono monos (mono ∷ []) ∙ (λ i. before i ++ is i ∷ []) ∙ sym (map-append f (take index items) (item ∷ []))
+    ∙ ap (map f) (ap (λ (last : X). take index items ++ last ∷ []) at ∙ sym (take_more items index item inside))
 
 -- ---- order
 

@@ -1,7 +1,9 @@
 -- The numbers of a term, and which of them are too large.
-use Rattle.std.specs.Prelude.{◌^◌, ◌-◌, min, ℤ, pos, Bool, if◌then◌else◌, nat_lt, unsigned_abs, Option, Some, List, [], ◌∷◌, ◌++◌}
+use Rattle.std.specs.Prelude.{◌≡◌, ◌^◌, ◌-◌, min, map, ℤ, pos, Bool, if◌then◌else◌, nat_lt, unsigned_abs, Option, None, Some, List, [], ◌∷◌, ◌++◌, Result, Ok, Err, ⊤}
 use Rattle.std.specs.List.{find}
 use Rattle.spf_term.specs.Bounded.{monomials}
+use Rattle.spf_term.specs.declared.fault.TermFault.{TermFault}
+use Rattle.spf_term.specs.declared.fault.TermFault.TheVariants.{Wide, Memory}
 use Rattle.spf_term.specs.declared.term.Atom.{Atom, Var, Param, App}
 use Rattle.spf_term.specs.declared.term.Mono.{Mono}
 use Rattle.spf_term.specs.declared.term.Term.{Term, Term', Row_of-Mono, end_of-Mono, more_of-Mono}
@@ -30,3 +32,21 @@ is_outside number = nat_lt (2 ^ 62) (unsigned_abs number)
 -- where the number rule is passed: the number of monomials, if there are too many, or else the first number that is too large
 abbrev pub excess : Term → Option ℤ
 excess term = if nat_lt 16384 (monomials term) then Some (pos (min (monomials term) (2 ^ 64 - 1))) else find is_outside (numbers term)
+
+-- an argument keeps the number rule
+abbrev pub AtomKeepsRule : Atom → Type 0
+AtomKeepsRule (Var number) = ⊤
+AtomKeepsRule (Param number) = ⊤
+AtomKeepsRule (App fun arg) = excess arg ≡ None
+
+-- what the first test that is failed tells
+abbrev pub first_excess : List (Option ℤ) → Option ℤ
+first_excess [] = None
+first_excess (None ∷ tests) = first_excess tests
+first_excess (Some number ∷ tests) = Some number
+
+-- where these terms keep the number rule, in their order, the term is made; else the first of them that doesn't is told
+abbrev pub IsTested : List Term → Term → Result Term TermFault → Type 0
+IsTested tested wanted (Ok made) = (first_excess (map excess tested) ≡ None) × (made ≡ wanted)
+IsTested tested wanted (Err (Wide number)) = first_excess (map excess tested) ≡ Some number
+IsTested tested wanted (Err Memory) = ⊤

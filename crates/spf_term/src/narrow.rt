@@ -2,14 +2,14 @@
 
 ghost use Rattle.std.specs.Prelude.{◌≡◌, ◌-◌, ◌^◌, [], ◌∷◌, min};
 ghost use Rattle.spf_term.specs.Bounded.{atom_monomials, monomials};
-ghost use Rattle.spf_term.specs.NumberRule.{atom_numbers, mono_numbers, numbers};
+ghost use Rattle.spf_term.specs.NumberRule.{IsTested, atom_numbers, mono_numbers, numbers};
 ghost use Rattle.spf_term.specs.Wide.{IsNarrowed, plain, plain_atom, plain_mono};
 
 use sqlite_items::Items;
 use std::alloc::Global;
 
 use crate::fault::TermFault;
-use crate::number_rule::LARGEST;
+use crate::number_rule::{LARGEST, MOST_MONOMIALS};
 use crate::term::{Atom, Mono, Term};
 use crate::wide::{WideAtom, WideMono, WideTerm};
 
@@ -89,4 +89,17 @@ pub(crate) fn narrowed(alloc: Global, term: &WideTerm) -> Result<Term, TermFault
         Ok(constant) => Ok(Term { monos, constant }),
         Err(fault) => Err(fault),
     }
+}
+
+/// The term, if it keeps the number rule. Linear in the term; recurses as deep as it nests.
+pub(crate) fn tested(alloc: Global, term: &WideTerm) -> Result<Term, TermFault>
+    ensures { IsTested (plain term.now ∷ []) (plain term.now) result }
+{
+    let count = wide_monomials(term);
+    if count > MOST_MONOMIALS {
+        return Err(TermFault::Wide {
+            count: i128::from(count),
+        });
+    }
+    narrowed(alloc, term)
 }

@@ -8,7 +8,7 @@ ghost use Rattle.spf_term.specs.NumberRule.{excess, is_outside, mono_numbers, nu
 use crate::term::{Atom, Mono, Term};
 
 /// The greatest number of monomials, nested ones counted.
-const MOST_MONOMIALS: u64 = 16_384;
+pub(crate) const MOST_MONOMIALS: u64 = 16_384;
 
 /// The greatest distance from 0 of a coefficient or constant.
 pub(crate) const LARGEST: u64 = 1 << 62;
