@@ -1,5 +1,5 @@
 -- Terms, said of their monomials as lists.
-use Rattle.std.proofs.Common.{◌≡◌, ℕ, ◌+◌, ℤ, pos, ◌+ℤ◌, ◌*ℤ◌, List, [], ◌∷◌, ◌++◌, refl, ap, sym, ◌∙◌, ◌<◌, length, get_or, drop}
+use Rattle.std.proofs.Common.{◌≡◌, ℕ, ◌+◌, ℤ, ◌+ℤ◌, ◌*ℤ◌, List, [], ◌∷◌, ◌++◌, refl, ap, sym, ◌∙◌, ◌<◌, length, get_or, drop}
 use Rattle.std.proofs.lemmas.List.{drop_more}
 use Rattle.spf_term.specs.declared.term.Term.{Term, Term', out-Term, Row_of-Mono, end_of-Mono, more_of-Mono, items-the_row-Mono, items_shown-the_row-Mono-0}
 use Rattle.spf_term.specs.declared.term.Mono.{Mono}

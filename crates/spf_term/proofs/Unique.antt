@@ -1,14 +1,12 @@
 -- There is one normal list for what monomials weigh.
-use Rattle.std.proofs.Common.{◌≡◌, ℤ, pos, ◌+ℤ◌, ◌*ℤ◌, List, [], ◌∷◌, Bool, true, false, refl, ap, sym, ◌∙◌, subst, arith}
+use Rattle.std.proofs.Common.{◌≡◌, ℤ, pos, ◌+ℤ◌, ◌*ℤ◌, List, [], ◌∷◌, true, false, refl, ap, sym, ◌∙◌, arith}
 use Rattle.std.proofs.Math.IntN.{*ℤ-one, *ℤ-zero, +ℤ_idl, +ℤ_idr}
 use Rattle.std.proofs.lemmas.Cmp.{tied_itself}
 use Rattle.std.proofs.lemmas.Int.{ints}
-use Rattle.std.specs.Bool.{⊤}
-use Rattle.std.specs.List.{AllByRecursion}
 use Rattle.std.specs.Ordering.{int_eq, ordering_reverse}
 use Rattle.std.specs.declared.cmp.Ordering.{Ordering}
 use Rattle.std.specs.declared.cmp.Ordering.TheVariants.{Less, Equal, Greater}
-use Rattle.spf_term.specs.Normal.{AllAtoms, AtomIsNormal, IsBeforeAll, ListIsNormal, added, all_added, by_order}
+use Rattle.spf_term.specs.Normal.{AllAtoms, AtomIsNormal, IsBeforeAll, ListIsNormal, all_added, by_order}
 use Rattle.spf_term.specs.Order.{atom_cmp}
 use Rattle.spf_term.specs.declared.term.Atom.{Atom}
 use Rattle.spf_term.specs.declared.term.Mono.{Mono}

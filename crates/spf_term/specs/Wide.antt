@@ -1,5 +1,5 @@
 -- Terms whose numbers have 128 bits.
-use Rattle.std.specs.Prelude.{◌≡◌, ℕ, ◌+◌, ℤ, unsigned_abs, Option, None, Some, List, [], ◌∷◌, Result, Ok, Err, ⊤}
+use Rattle.std.specs.Prelude.{◌≡◌, ℕ, ◌+◌, ℤ, unsigned_abs, None, Some, List, [], ◌∷◌, Result, Ok, Err, ⊤}
 use Rattle.std.specs.List.{find}
 use Rattle.spf_term.specs.Normal.{by_order}
 use Rattle.spf_term.specs.NumberRule.{is_outside}

@@ -7,12 +7,11 @@ ghost use Rattle.spf_term.specs.Order.{atom_cmp};
 ghost use Rattle.spf_term.specs.Wide.{load, plain_atom, plain_mono};
 ghost use Rattle.spf_term.specs.declared.term.Atom.{Atom};
 
+use crate::wide::{WideMono, compare_wide_atoms};
 use spf_base::NoMemory;
 use sqlite_items::Items;
 use std::alloc::Global;
 use std::cmp::Ordering;
-
-use crate::wide::{WideMono, compare_wide_atoms};
 
 /// Adds the monomial at the end, unless its coefficient is 0.
 fn push_kept(made: &mut Vec<WideMono>, mono: WideMono) -> Result<(), NoMemory>

@@ -5,13 +5,12 @@ ghost use Rattle.spf_term.specs.Bounded.{atom_monomials, monomials};
 ghost use Rattle.spf_term.specs.NumberRule.{IsTested, atom_numbers, mono_numbers, numbers};
 ghost use Rattle.spf_term.specs.Wide.{IsNarrowed, plain, plain_atom, plain_mono};
 
-use sqlite_items::Items;
-use std::alloc::Global;
-
 use crate::fault::TermFault;
 use crate::number_rule::{LARGEST, MOST_MONOMIALS};
 use crate::term::{Atom, Mono, Term};
 use crate::wide::{WideAtom, WideMono, WideTerm};
+use sqlite_items::Items;
+use std::alloc::Global;
 
 #[cycle(wide_monomials)]
 fn atom_wide_monomials(atom: &WideAtom) -> u64

@@ -8,15 +8,14 @@ ghost use Rattle.spf_term.specs.Value.{value};
 ghost use Rattle.spf_term.specs.Wide.{plain, plain_atom};
 ghost use Rattle.spf_term.specs.declared.term.Term.{Term};
 
-use spf_base::NoMemory;
-use std::alloc::Global;
-
 use crate::collect::collected;
 use crate::fault::TermFault;
 use crate::narrow::tested;
 use crate::number_rule::excess;
 use crate::term::{Atom, Term};
 use crate::wide::{WideAtom, WideMono, WideTerm};
+use spf_base::NoMemory;
+use std::alloc::Global;
 
 #[cycle(normal)]
 fn normal_wide_atom(alloc: Global, atom: &Atom) -> Result<WideAtom, NoMemory>

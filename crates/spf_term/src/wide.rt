@@ -45,7 +45,13 @@ pub(crate) fn compare_wide_atoms(a: &WideAtom, b: &WideAtom) -> Ordering
         (WideAtom::Param(number), WideAtom::Param(other)) => number.cmp(other),
         (WideAtom::Param(_), _) => Ordering::Less,
         (_, WideAtom::Param(_)) => Ordering::Greater,
-        (WideAtom::App { fun, arg }, WideAtom::App { fun: other_fun, arg: other }) => {
+        (
+            WideAtom::App { fun, arg },
+            WideAtom::App {
+                fun: other_fun,
+                arg: other,
+            },
+        ) => {
             match fun.cmp(other_fun) {
                 Ordering::Equal => compare_wide(arg, other),
                 order => order,

@@ -2,7 +2,7 @@ use Rattle.std.proofs.Common.{◌≡◌, ◌+ℤ◌, ◌++◌, [], OnOk, List, �
 use Rattle.std.proofs.lemmas.Int.{to_z-of_z}
 use Rattle.std.specs.Int.{w128}
 use Rattle.std.specs.declared.cmp.Ordering.TheVariants.{Equal}
-use Rattle.spf_term.specs.Normal.{added, kept}
+use Rattle.spf_term.specs.Normal.{kept}
 use Rattle.spf_term.specs.Wide.{plain_atom, plain_mono}
 use Rattle.spf_term.specs.declared.term.Mono.{Mono}
 use Rattle.spf_term.proofs.Collected.{last_added, last_apart, wide_sum_fits}
@@ -13,7 +13,7 @@ overflow_add-sum c =
     let left = to_z-of_z w128 c.args.mono.coef (search rules) in
     let right = to_z-of_z w128 c.in-Some.last.coef (search rules) in
     let fits : FitsSigned w128 (c.args.mono.coef +ℤ c.in-Some.last.coef) =
-        wide_sum_fits c.args.made.now.items c.pop.new.self.items c.in-Some.last c.args.mono c.in-Some.ensures.items (sym c.in-Equal.ensures) (c.requires.fits (plain_atom c.args.mono.atom)) in
+    wide_sum_fits c.args.made.now.items c.pop.new.self.items c.in-Some.last c.args.mono c.in-Some.ensures.items (sym c.in-Equal.ensures) (c.requires.fits (plain_atom c.args.mono.atom)) in
     search rules
 
 pub returns-in-Equal : goal.returns-in-Equal

@@ -1,11 +1,7 @@
 use Rattle.std.proofs.Common.{◌≡◌, [], map, ap, sym, ◌∙◌, subst, rules, arith}
 use Rattle.std.proofs.lemmas.Grind.{common_steps}
-use Rattle.std.specs.Ordering.{is_lt}
 use Rattle.std.proofs.lemmas.Fn.{always_returns_same}
-use Rattle.std.proofs.lemmas.List.Sorted.{IsStrictWeakOrder-flip, ranks_by}
-use Rattle.spf_term.specs.Order.{atom_cmp}
-use Rattle.spf_term.specs.Wide.{plain_atom, plain_mono}
-use Rattle.spf_term.specs.declared.wide.WideMono.{WideMono}
+use Rattle.spf_term.specs.Wide.{plain_mono}
 use Rattle.spf_term.proofs.Gathering.{Gathering, begun, falling, gathered, gone_on, key_less, last_fits, last_not_less}
 use Rattle.spf_term.proofs.collect.collected.Goals as goal
 

@@ -32,7 +32,8 @@ narrowed-loop-mono-preserved t c =
 
 pub narrowed-returns-in-Ok-narrowed_number : goal.narrowed-returns-in-Ok-narrowed_number
 narrowed-returns-in-Ok-narrowed_number t c =
-    let wide = to_z-of_z w128 (out-WideTerm c.args.term.now).constant (search rules) in
-    (all_made c.args.term.now c.as_slice-mono-items.result.now c.as_slice-mono-items.ensures c.loop-mono.mono-index c.loop-mono-test.false c.loop-mono.monos _ c.loop-mono.invariant.made (to_z-of_z w64 c.in-Ok-narrowed_number.constant (search rules) ∙ c.in-Ok-narrowed_number.ensures.0 ∙ wide),
-    sym (last_number c.args.term.now c.as_slice-mono-items.result.now c.as_slice-mono-items.ensures c.loop-mono.mono-index c.loop-mono-test.false c.loop-mono.invariant.rest)
-    ∙ ap (λ of. find is_outside (of ∷ [])) (sym wide) ∙ c.in-Ok-narrowed_number.ensures.1)
+    let wide = to_z-of_z w128 (out-WideTerm c.args.term.now).constant (search rules) in (
+      all_made c.args.term.now c.as_slice-mono-items.result.now c.as_slice-mono-items.ensures c.loop-mono.mono-index c.loop-mono-test.false c.loop-mono.monos _ c.loop-mono.invariant.made (to_z-of_z w64 c.in-Ok-narrowed_number.constant (search rules) ∙ c.in-Ok-narrowed_number.ensures.0 ∙ wide),
+      sym (last_number c.args.term.now c.as_slice-mono-items.result.now c.as_slice-mono-items.ensures c.loop-mono.mono-index c.loop-mono-test.false c.loop-mono.invariant.rest)
+          ∙ ap (λ of. find is_outside (of ∷ [])) (sym wide) ∙ c.in-Ok-narrowed_number.ensures.1,
+    )

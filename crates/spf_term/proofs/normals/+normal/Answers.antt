@@ -1,9 +1,8 @@
-use Rattle.std.proofs.Common.{◌≡◌, ◌+◌, ℤ, map, take, ap, sym, ◌∙◌, subst, rules, arith, w64}
-use Rattle.std.proofs.lemmas.Grind.{common_steps}
+use Rattle.std.proofs.Common.{map, ap, sym, ◌∙◌, rules, w64}
 use Rattle.std.proofs.lemmas.Int.{to_z-of_z}
 use Rattle.std.proofs.lemmas.List.{take_all}
 use Rattle.std.specs.Int.{w128}
-use Rattle.spf_term.specs.Normal.{AllAtoms, AtomIsNormal, all_added, normal_atom}
+use Rattle.spf_term.specs.Normal.{all_added, normal_atom}
 use Rattle.spf_term.specs.Wide.{plain_mono}
 use Rattle.spf_term.specs.declared.term.Term.{out-Term, the_lemmas}
 use Rattle.spf_term.proofs.NormalForms.{each_normal, normal_mono, normal_term_is}
