@@ -21,7 +21,7 @@ use Rattle.spf_term.proofs.OrderLaws.{atom_chain, atom_turned, atoms_total}
 
 -- ---- distances from 0
 
-abs_sum : (a b : ℤ) → unsigned_abs (a +ℤ b) ≤ unsigned_abs a + unsigned_abs b
+pub abs_sum : (a b : ℤ) → unsigned_abs (a +ℤ b) ≤ unsigned_abs a + unsigned_abs b
 abs_sum (pos m) (pos n) = omega (arith, ints)
 abs_sum (pos m) (negsuc n) = omega (arith, ints)
 abs_sum (negsuc m) (pos n) = omega (arith, ints)

@@ -3,7 +3,7 @@ use Rattle.std.proofs.Common.{◌≡◌, ℤ, pos, ◌+ℤ◌, List, [], ◌∷�
 use Rattle.std.specs.Ordering.{int_eq, ordering_reverse}
 use Rattle.std.specs.declared.cmp.Ordering.{Ordering}
 use Rattle.std.specs.declared.cmp.Ordering.TheVariants.{Less, Equal, Greater}
-use Rattle.spf_term.specs.Normal.{AllAtoms, AreNormal, AtomIsNormal, IsBefore, IsBeforeAll, IsNormal, ListIsNormal, added, all_added, by_order, kept, normal, normal_atom, normal_monos}
+use Rattle.spf_term.specs.Normal.{AllAtoms, AreNormal, AtomIsNormal, IsBefore, IsBeforeAll, IsNormal, ListIsNormal, added, all_added, by_order, kept, normal, normal_atom, normal_mono, normal_monos}
 use Rattle.spf_term.specs.Order.{atom_cmp}
 use Rattle.spf_term.specs.declared.term.Atom.{Atom, Var, Param, App}
 use Rattle.spf_term.specs.declared.term.Mono.{Mono}
@@ -90,9 +90,6 @@ mutual
       (subst ListIsNormal (sym (ap (λ term. term.monos) (out-roll-Term (record { monos = normal_monos monos; constant = constant })))) (normal_monos_are monos))
 
 -- ---- the normal monomials, as a list
-
-abbrev pub normal_mono : Mono → Mono
-normal_mono mono = record { coef = mono.coef; atom = normal_atom mono.atom }
 
 pub each_normal : (monos : List Mono) → AllAtoms AtomIsNormal (map normal_mono monos)
 each_normal [] = tt

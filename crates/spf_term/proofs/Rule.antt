@@ -1,5 +1,5 @@
 -- What the number rule says of the monomials of a term.
-use Rattle.std.proofs.Common.{◌≡◌, ℕ, ◌*◌, ◌-◌, ◌<◌, ◌≤◌, ◌^◌, ℤ, pos, List, [], ◌∷◌, Bool, true, false, Option, None, Some, if◌then◌else◌, nat_lt, get_or, min, length, map, refl, ap, sym, ◌∙◌, subst, arith, unsigned_abs}
+use Rattle.std.proofs.Common.{◌≡◌, ℕ, ◌*◌, ◌-◌, ◌<◌, ◌≤◌, ◌^◌, ℤ, pos, List, [], ◌∷◌, Bool, true, false, Option, None, Some, Result, Ok, Err, if◌then◌else◌, nat_lt, get_or, min, length, map, refl, ap, sym, ◌∙◌, subst, arith, unsigned_abs}
 use Rattle.std.proofs.lemmas.Bool.Decides.{nat_tests}
 use Rattle.std.proofs.lemmas.List.Elements.{All-from_recursion}
 use Rattle.std.proofs.lemmas.List.Folds.{find-append}
@@ -9,9 +9,11 @@ use Rattle.std.specs.declared.cmp.Ordering.{Ordering}
 use Rattle.std.specs.declared.cmp.Ordering.TheVariants.{Less, Equal, Greater}
 use Rattle.spf_term.specs.Bounded.{IsWithin, atom_monomials, monomials}
 use Rattle.spf_term.specs.Normal.{by_order}
-use Rattle.spf_term.specs.NumberRule.{AtomKeepsRule, atom_numbers, excess, is_outside, mono_numbers, numbers}
+use Rattle.spf_term.specs.NumberRule.{AtomKeepsRule, IsTested, atom_numbers, excess, first_excess, is_outside, mono_numbers, numbers}
 use Rattle.spf_term.specs.Order.{atom_cmp}
 use Rattle.spf_term.specs.Wide.{load}
+use Rattle.spf_term.specs.declared.fault.TermFault.{TermFault}
+use Rattle.spf_term.specs.declared.fault.TermFault.TheVariants.{Wide, Memory}
 use Rattle.spf_term.specs.declared.term.Atom.{Atom, Var, Param, App}
 use Rattle.spf_term.specs.declared.term.Mono.{Mono}
 use Rattle.spf_term.specs.declared.term.Term.{Term, out-Term}
@@ -63,6 +65,11 @@ small_list (mono ∷ monos) constant few none =
     let first = first_by (is_outside mono.coef) mono.coef (find is_outside (atom_numbers mono.atom)) parts.0 in
     ((within mono.coef first.0, atom_keeps mono.atom (omega (arith, few)) first.1), small_list monos constant (omega (arith, few)) parts.1)
 
+last_small : (monos : List Mono) (constant : ℤ) → find is_outside (list_numbers monos constant) ≡ None → IsWithin (2 ^ 62) constant
+last_small [] constant none = within constant (first_by (is_outside constant) constant None none).0
+last_small (mono ∷ monos) constant none =
+    last_small monos constant (both_none (find is_outside (mono_numbers mono)) (find is_outside (list_numbers monos constant)) (sym (find-append is_outside (mono_numbers mono) (list_numbers monos constant)) ∙ none)).1
+
 long_list : (monos : List Mono) → length monos ≤ list_monomials monos
 long_list [] = omega arith
 long_list (mono ∷ monos) = let more = long_list monos in omega (arith, more)
@@ -73,6 +80,9 @@ module _ (term : Term) (none : excess term ≡ None) where
       let both = few_and_small term none in
       small_list (out-Term term).monos (out-Term term).constant (subst (λ count. count ≤ 16384) (monomials_are term) both.0) (ap (find is_outside) (sym (numbers_are term)) ∙ both.1)
 
+  pub small_constant : IsWithin (2 ^ 62) (out-Term term).constant
+  small_constant = last_small (out-Term term).monos (out-Term term).constant (ap (find is_outside) (sym (numbers_are term)) ∙ (few_and_small term none).1)
+
   pub few_monos : length (out-Term term).monos ≤ 16384
   few_monos =
       let both = few_and_small term none in
@@ -82,7 +92,7 @@ module _ (term : Term) (none : excess term ≡ None) where
 
 -- ---- how much they weigh
 
-one_load : (order : Ordering) (coef : ℤ) → IsWithin (2 ^ 62) coef → by_order order 0 (unsigned_abs coef) 0 ≤ 2 ^ 62
+pub one_load : (order : Ordering) (coef : ℤ) → IsWithin (2 ^ 62) coef → by_order order 0 (unsigned_abs coef) 0 ≤ 2 ^ 62
 one_load Less coef h = omega arith
 one_load Equal coef h = h
 one_load Greater coef h = omega arith
@@ -108,3 +118,14 @@ fits_with other term none made are atom =
     let few = few_monos term none in
     let same = ap (load atom) are in
     omega (arith, light, few, same)
+
+-- ---- one test after another
+
+pub only_test : (test : Option ℤ) → first_excess (test ∷ []) ≡ None → test ≡ None
+only_test None is = refl
+only_test (Some number) is = cc
+
+pub passed : (first : Term) (tested : List Term) (wanted : Term) (result : Result Term TermFault) → excess first ≡ None → IsTested tested wanted result → IsTested (first ∷ tested) wanted result
+passed first tested wanted (Ok made) none h = (ap (λ test. first_excess (test ∷ map excess tested)) none ∙ h.0, h.1)
+passed first tested wanted (Err (Wide number)) none h = ap (λ test. first_excess (test ∷ map excess tested)) none ∙ h
+passed first tested wanted (Err Memory) none h = tt

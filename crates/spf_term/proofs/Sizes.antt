@@ -40,7 +40,7 @@ mutual
 
 -- ---- sums of small products
 
-times_within : {a b : ℕ} (x y : ℤ) → IsWithin a x → IsWithin b y → IsWithin (a * b) (x *ℤ y)
+pub times_within : {a b : ℕ} (x y : ℤ) → IsWithin a x → IsWithin b y → IsWithin (a * b) (x *ℤ y)
 times_within x y p q = rw (unsigned_abs-mul x y) (mul-le _ _ _ _ p q)
 
 module _ (env : Environment) (variables : List ℤ) (small : AreWithin env variables) where

@@ -62,7 +62,7 @@ grouped_negative zero b k =
 grouped_negative (suc n) b k =
     ap (λ (product : ℤ). product *ℤ k) (pred_ℤ-*ℤ (negsuc n) b) ∙ spread_back (negsuc n *ℤ b) b k ∙ ap (λ (product : ℤ). product -ℤ (b *ℤ k)) (grouped_negative n b k) ∙ sym (pred_ℤ-*ℤ (negsuc n) (b *ℤ k))
 
-grouped : (a b k : ℤ) → (a *ℤ b) *ℤ k ≡ a *ℤ (b *ℤ k)
+pub grouped : (a b k : ℤ) → (a *ℤ b) *ℤ k ≡ a *ℤ (b *ℤ k)
 grouped (pos n) b k = grouped_pos n b k
 grouped (negsuc n) b k = grouped_negative n b k
 

@@ -1,5 +1,5 @@
 -- Terms of wide numbers, said of their monomials as lists.
-use Rattle.std.proofs.Common.{◌≡◌, ℕ, ◌+◌, ◌<◌, ℤ, List, [], ◌∷◌, ◌++◌, length, get_or, map, take, refl, ap, sym, ◌∙◌, subst}
+use Rattle.std.proofs.Common.{◌≡◌, ℕ, ◌+◌, ◌<◌, ℤ, List, [], ◌∷◌, ◌++◌, length, get_or, map, take, refl, ap, sym, ◌∙◌, append_assoc, subst}
 use Rattle.std.proofs.lemmas.List.{get_or-map, map-append, take_more}
 use Rattle.std.proofs.lemmas.List.Elements.{All-from_recursion}
 use Rattle.std.specs.List.{All, AllByRecursion}
@@ -55,11 +55,12 @@ pub normal_atoms : (monos : List WideMono) (others : List Mono) → map plain_mo
 normal_atoms monos others are h = All-from_recursion HasNormalAtom monos (plain_atoms monos (subst (AllAtoms AtomIsNormal) (sym are) h))
 
 -- one more monomial, for the one at a place of a list
-pub one_more : {X : Type 0} (f : X → Mono) (items : List X) (index : ℕ) (item : X) → index < length items → item ≡ get_or items index item
-    → (monos made : List WideMono) (mono : WideMono) → made ≡ monos ++ mono ∷ [] → plain_mono mono ≡ f item → map plain_mono monos ≡ map f (take index items) → map plain_mono made ≡ map f (take (index + 1) items)
-one_more {X} f items index item inside at monos made mono pushed is before =
-    ap (map plain_mono) pushed ∙ map-append plain_mono monos (mono ∷ []) ∙ (λ i. before i ++ is i ∷ []) ∙ sym (map-append f (take index items) (item ∷ []))
-    ∙ ap (map f) (ap (λ (last : X). take index items ++ last ∷ []) at ∙ sym (take_more items index item inside))
+pub one_more : {X : Type 0} (front : List Mono) (f : X → Mono) (items : List X) (index : ℕ) (item : X) → index < length items → item ≡ get_or items index item
+    → (monos made : List WideMono) (mono : WideMono) → made ≡ monos ++ mono ∷ [] → plain_mono mono ≡ f item → map plain_mono monos ≡ front ++ map f (take index items) → map plain_mono made ≡ front ++ map f (take (index + 1) items)
+one_more {X} front f items index item inside at monos made mono pushed is before =
+    ap (map plain_mono) pushed ∙ map-append plain_mono monos (mono ∷ []) ∙ (λ i. before i ++ is i ∷ []) ∙ append_assoc front (map f (take index items)) (f item ∷ [])
+    ∙ ap (λ more. front ++ more)
+    (sym (map-append f (take index items) (item ∷ [])) ∙ ap (map f) (ap (λ (last : X). take index items ++ last ∷ []) at ∙ sym (take_more items index item inside)))
 
 -- ---- order
 

@@ -44,6 +44,9 @@ abbrev mutual
   normal_atom (Param number) = Param number
   normal_atom (App fun arg) = App fun (normal arg)
 
+abbrev pub normal_mono : Mono → Mono
+normal_mono mono = record { coef = mono.coef; atom = normal_atom mono.atom }
+
 -- the atom is before that of each monomial
 abbrev pub IsBefore : {n : _} → Atom → Row_of-Mono n → Type 0
 IsBefore atom end_of-Mono = ⊤

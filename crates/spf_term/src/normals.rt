@@ -18,7 +18,7 @@ use spf_base::NoMemory;
 use std::alloc::Global;
 
 #[cycle(normal)]
-fn normal_wide_atom(alloc: Global, atom: &Atom) -> Result<WideAtom, NoMemory>
+pub(crate) fn normal_wide_atom(alloc: Global, atom: &Atom) -> Result<WideAtom, NoMemory>
     requires { AtomKeepsRule atom.now }
     ensures { IfOk result (λ made. plain_atom made ≡ normal_atom atom.now) }
 {

@@ -1,11 +1,11 @@
-use Rattle.std.proofs.Common.{map, ap, sym, ◌∙◌, rules, w64}
+use Rattle.std.proofs.Common.{[], map, ap, sym, ◌∙◌, rules, w64}
 use Rattle.std.proofs.lemmas.Int.{to_z-of_z}
 use Rattle.std.proofs.lemmas.List.{take_all}
 use Rattle.std.specs.Int.{w128}
-use Rattle.spf_term.specs.Normal.{all_added, normal_atom}
+use Rattle.spf_term.specs.Normal.{all_added, normal_atom, normal_mono}
 use Rattle.spf_term.specs.Wide.{plain_mono}
 use Rattle.spf_term.specs.declared.term.Term.{out-Term, the_lemmas}
-use Rattle.spf_term.proofs.NormalForms.{each_normal, normal_mono, normal_term_is}
+use Rattle.spf_term.proofs.NormalForms.{each_normal, normal_term_is}
 use Rattle.spf_term.proofs.Rule.{fits_with, keeps_at}
 use Rattle.spf_term.proofs.Wides.{normal_atoms, one_more, plain_made, sum_of}
 use Rattle.spf_term.proofs.normals.+normal.Goals as goal
@@ -18,7 +18,7 @@ normal_wide-normal_wide_atom-requires t c =
 pub normal_wide-loop-mono-preserved : goal.normal_wide-loop-mono-preserved
 normal_wide-loop-mono-preserved t c =
     let coef = to_z-of_z w128 c.from.result (search rules) ∙ c.from.ensures ∙ to_z-of_z w64 c.mono-item.result.coef (search rules) in
-    one_more normal_mono c.as_slice-mono-items.result.now c.loop-mono.mono-index c.mono-item.result c.loop-mono-test.true c.mono-item.is c.loop-mono.monos.items c.push.new.self.items _ c.in_ok-push.ensures.items
+    one_more [] normal_mono c.as_slice-mono-items.result.now c.loop-mono.mono-index c.mono-item.result c.loop-mono-test.true c.mono-item.is c.loop-mono.monos.items c.push.new.self.items _ c.in_ok-push.ensures.items
     (λ i. record { coef = coef i; atom = c.in_ok-atom.ensures i }) c.loop-mono.invariant
 
 pub normal_wide-collected-requires-clause-normal : goal.normal_wide-collected-requires-clause-normal
