@@ -1,25 +1,22 @@
--- Where no number is large and no monomial in excess, index expressions and values are bounded.
+-- Where no number is large and no monomial in excess, index expressions are bounded, and so are those of names as factors.
 use Rattle.spf_kernel.proofs.Common.{ℕ, ◌+◌, ◌*◌, ◌^◌, ◌≤◌, Bool, true, false, List, [], ◌∷◌, ◌++◌, length, fold, Option, None, Some, is_some, ap, subst, ℤ, pos, ◌+ℤ◌, unsigned_abs, arith, ints, if◌then◌else◌, ⊤, AllByRecursion, split_each, length-append, Term, Term', roll-Term, out-roll-Term, Row_of-Mono, end_of-Mono, more_of-Mono, items-the_row-Mono, items_shown-the_row-Mono-0, Mono, Token, Spot, Scope, RawIx, RawIx', Row_of-RawStep, end_of-RawStep, more_of-RawStep, items-the_row-RawStep, items_shown-the_row-RawStep-1, RawStep, RawMono, Number', RawMono-Number-1-None', RawMono-Number-1-Some', RawAtom, RawAtom', RawAtom-at-None', RawAtom-at-Some', end_of-RawIx, more_of-RawIx, RawValue, RawValue', Row_of-RawFactor, end_of-RawFactor, more_of-RawFactor, Row_of-RawSummand, end_of-RawSummand, more_of-RawSummand, RawFactor, Paren', end_of-RawValue, more_of-RawValue, Value, Value', roll-Value, out-roll-Value, Row_of-Prod, end_of-Prod, more_of-Prod, items-the_row-Prod, items_shown-the_row-Prod-1, Row_of-Factor, end_of-Factor, more_of-Factor, items-the_row-Factor, items_shown-the_row-Factor-0, Prod, Fact, text_of, variables_in, Names, ix_notes, steps_notes, mono_notes, atom_notes, value_notes, facts_notes, summands_notes, fact_notes, subscript_notes, excess_notes, expression_notes, ix_monomials, mono_monomials, atom_monomials, monomial_limit, number_notes, alone_of, constant_of, variable_of, table_of, data_array_of, is_data_array, bare_atom, bare_factor, term_of, more_monos, monos_of, atom_of, factor_at, more_factors, more_prods, factor_of}
 use Rattle.spf_base.specs.Wrap.{wrap}
 use Rattle.spf_term.specs.Bounded.{IsWithin, IsBounded, monomials, sum_monomials, HasSmallNumbers, HaveSmallNumbers, AtomHasSmallNumbers}
 use Rattle.spf_term.specs.Bounded as bounded
 use Rattle.spf_term.specs.declared.term.Atom.{Atom}
 use Rattle.spf_term.specs.declared.term.Term.{out-Term}
-use Rattle.spf_kernel.specs.Bounded.{IsBoundedValue, AreBoundedProds, AreBoundedFactors, IsBoundedFactor}
+use Rattle.spf_kernel.specs.Bounded.{IsBoundedFactor}
 use Rattle.spf_kernel.specs.declared.note.Spot.TheVariants as spot_is
 use Rattle.spf_kernel.specs.declared.raw.RawIx.{out-RawIx}
 use Rattle.spf_kernel.specs.declared.raw.RawMono as raw_mono
-use Rattle.spf_kernel.specs.declared.raw.RawAtom.{out-RawAtom}
-use Rattle.spf_kernel.specs.declared.raw.RawFactor.TheVariants as raw_factor
-use Rattle.spf_kernel.specs.declared.tree.Value.{out-Value}
 use Rattle.spf_kernel.specs.declared.tree.Factor.TheVariants as factor
 use Rattle.spf_kernel.specs.Notes.{steps_monomials}
-use Rattle.spf_kernel.specs.Resolved.{signed, value_of}
+use Rattle.spf_kernel.specs.Resolved.{signed}
 use Rattle.spf_kernel.proofs.NamedUses.{AreFitting, IsFitting}
 use Rattle.spf_kernel.proofs.NoteEquations.{few_monomials, number_within}
 use Rattle.spf_kernel.proofs.PrintedConstants.{signed_size, wrap_no_larger}
 
--- ---- terms and values made of lists
+-- ---- terms made of lists
 
 -- at most so many monomials, with small numbers
 record IsSized (room : ℕ) (term : Term) : Type 0 where
@@ -53,27 +50,6 @@ rolled_term : (room : ℕ) (monos : List Mono) (constant : ℤ) → AreSized roo
 rolled_term room monos constant each small =
     let term = roll-Term (record { monos = monos; constant = constant }) in
     term_sized_by room term (rw (out-roll-Term (record { monos = monos; constant = constant })) each) (rw (out-roll-Term (record { monos = monos; constant = constant })) small)
-
--- ---- values made of lists
-
-abbrev IsBoundedProd : Prod → Type 0
-IsBoundedProd prod = AllByRecursion IsBoundedFactor prod.facts
-
-factors_bounded : {n : _} (row : Row_of-Factor n) → AllByRecursion IsBoundedFactor (items-the_row-Factor n row) → AreBoundedFactors row
-factors_bounded end_of-Factor each = tt
-factors_bounded (more_of-Factor fact others) each = (each.0, factors_bounded others each.1)
-
-prods_bounded : {n : _} (row : Row_of-Prod n) → AllByRecursion IsBoundedProd (items-the_row-Prod n row) → AreBoundedProds row
-prods_bounded end_of-Prod each = tt
-prods_bounded (more_of-Prod minus shape facts others) each =
-    (factors_bounded facts (subst (AllByRecursion IsBoundedFactor) (items_shown-the_row-Factor-0 shape facts) each.0), prods_bounded others each.1)
-
-value_bounded_by : (value : Value) → AllByRecursion IsBoundedProd (out-Value value).prods → IsBoundedValue value
-unfolding out-Value denote.Hole.Carrier.out
-value_bounded_by (Value' shape prods) each = prods_bounded prods (subst (AllByRecursion IsBoundedProd) (items_shown-the_row-Prod-1 shape prods) each)
-
-rolled_value : (prods : List Prod) → AllByRecursion IsBoundedProd prods → IsBoundedValue (roll-Value (record { prods = prods }))
-rolled_value prods each = value_bounded_by (roll-Value (record { prods = prods })) (rw (out-roll-Value (record { prods = prods })) each)
 
 -- ---- numbers
 
@@ -165,32 +141,9 @@ module _ (texts : List (List ℕ)) (facts : List Fact) (scope : Scope) where
     factor_bare name None = tt
 
     -- a name, and what stands in the brackets behind it
-    at_bounded : (name : Token) (at : Option RawIx) → AreFitting texts facts (subscript_notes scope at) → IsBoundedFactor (factor_at texts names scope name at)
+    pub at_bounded : (name : Token) (at : Option RawIx) → AreFitting texts facts (subscript_notes scope at) → IsBoundedFactor (factor_at texts names scope name at)
     at_bounded name None each = factor_bare name (variable_of (variables_in texts scope) (text_of texts name))
     at_bounded name (Some ix) each = by (is_data_array texts names name) where
       by : (b : Bool) → IsBoundedFactor (if b then factor.Cell (data_array_of texts names name) (term_of texts names scope ix) else factor.Index (table_of texts names name) (term_of texts names scope ix))
       by true = expression_bounded names spot_is.Body ix each
       by false = expression_bounded names spot_is.Body ix each
-
-    mutual
-      pub value_bounded : (x : RawValue) → AreFitting texts facts (value_notes scope x) → IsBoundedValue (value_of texts names scope x)
-      value_bounded (RawValue' shape summands) each = rolled_value (more_prods texts names scope summands) (summands_bounded summands each)
-
-      facts_bounded : {n : _} (row : Row_of-RawFactor n) → AreFitting texts facts (facts_notes scope row) → AllByRecursion IsBoundedFactor (more_factors texts names scope row)
-      facts_bounded end_of-RawFactor each = tt
-      facts_bounded (more_of-RawFactor fact others) each =
-          let parts = split_each (IsFitting texts facts) (fact_notes scope fact) (facts_notes scope others) each in
-          (fact_bounded fact parts.0, facts_bounded others parts.1)
-
-      summands_bounded : {n : _} (row : Row_of-RawSummand n) → AreFitting texts facts (summands_notes scope row) → AllByRecursion IsBoundedProd (more_prods texts names scope row)
-      summands_bounded end_of-RawSummand each = tt
-      summands_bounded (more_of-RawSummand minus shape row others) each =
-          let parts = split_each (IsFitting texts facts) (facts_notes scope row) (summands_notes scope others) each in
-          (facts_bounded row parts.0, summands_bounded others parts.1)
-
-      fact_bounded : (x : RawFactor) → AreFitting texts facts (fact_notes scope x) → IsBoundedFactor (factor_of texts names scope x)
-      fact_bounded (raw_factor.Number number) each = tt
-      fact_bounded (Paren' shape (more_of-RawValue inside end_of-RawValue)) each =
-          let parts = split_each (IsFitting texts facts) (value_notes scope inside) [] each in
-          value_bounded inside parts.0
-      fact_bounded (raw_factor.Name atom) each = at_bounded (out-RawAtom atom).name (out-RawAtom atom).at each.1.1

@@ -1,9 +1,9 @@
 -- The first breach of the notes, with one note more.
-use Rattle.spf_kernel.proofs.Common.{◌≡◌, ℕ, ◌+◌, ◌<◌, ◌≤◌, Bool, true, false, List, [], ◌∷◌, ◌++◌, length, map, slice_get, Option, None, Some, refl, ap, sym, ◌∙◌, subst, position, nat_lt, ◌⊎◌, inl, inr, ⊎_elim, append_assoc, length-append, arith, ltb-false, option_map, Note, Breach, IsFirst, Fact, fact_of, facts_of, IsUnbroken}
+use Rattle.spf_kernel.proofs.Common.{◌≡◌, ℕ, ◌+◌, ◌<◌, ◌≤◌, Bool, true, false, List, [], ◌∷◌, ◌++◌, length, slice_get, Option, None, Some, refl, ap, sym, ◌∙◌, subst, nat_lt, zero, suc, if◌then◌else◌, ◌⊎◌, inl, inr, ⊎_elim, append_assoc, length-append, arith, ltb-false, Note, Breach, IsFirst, Fact, fact_of, facts_of, IsUnbroken}
 use Rattle.std.proofs.lemmas.Bool.{ltb-true}
-use Rattle.spf_kernel.specs.Checked.{least_rule, Precedes}
-use Rattle.spf_kernel.specs.Rules.{rules, has_capital, Breaks, IsFirstBreach}
-use Rattle.spf_kernel.proofs.Places.{position-map, none_passes, first_passes}
+use Rattle.std.specs.Option.{option_or}
+use Rattle.spf_kernel.specs.Checked.{first_broken, least_rule, Precedes}
+use Rattle.spf_kernel.specs.Rules.{rules, name_rules, limit_rules, has_capital, is_taken, is_unknown, is_misused, Breaks, IsFirstBreach}
 
 -- a split of a list with one element more is at that element, or a split of the list
 pub data Splits {X : Type 0} (xs : List X) (new : X) (before : List X) (x : X) : Type 0 where
@@ -35,13 +35,59 @@ comes_behind a b behind = (by (nat_lt a.place b.place) refl, λ same. at_one_pla
   at_one_place same true e = absurd (behind (inr (same, ltb-true a.rule b.rule e)))
   at_one_place same false e = ltb-false a.rule b.rule e
 
--- the least rule that the fact breaks is the least that it breaks
-pub least_rule_is : (before : List Fact) (fact : Fact) (broken : List Bool) → broken ≡ map (λ (test : List Fact → Fact → Bool). test before fact) rules
-    → option_map (λ (n : ℕ). n + 1) (position (λ (holds : Bool). holds) broken) ≡ least_rule before fact
-unfolding least_rule
-least_rule_is before fact broken e =
-    ap (λ (bs : List Bool). option_map (λ (n : ℕ). n + 1) (position (λ (holds : Bool). holds) bs)) e
-    ∙ ap (option_map (λ (n : ℕ). n + 1)) (position-map (λ (test : List Fact → Fact → Bool). test before fact) rules)
+-- ---- the first of some rules that is broken
+
+abbrev Rule : Type 0
+Rule = List Fact → Fact → Bool
+
+module _ (before : List Fact) (fact : Fact) where
+  none_of : (n : ℕ) (rules : List Rule) → first_broken n rules before fact ≡ None → (k : ℕ) (test : Rule) → slice_get rules k ≡ Some test → test before fact ≡ true → ⊥
+  none_of n [] none k test there broken = cc
+  none_of n (rule ∷ rules) none k test there broken = by (rule before fact) refl (none_of (n + 1) rules) none k there where
+    by : (b : Bool) → rule before fact ≡ b → (first_broken (n + 1) rules before fact ≡ None → (k : ℕ) (test : Rule) → slice_get rules k ≡ Some test → test before fact ≡ true → ⊥)
+        → (if b then Some n else first_broken (n + 1) rules before fact) ≡ None → (k : ℕ) → slice_get (rule ∷ rules) k ≡ Some test → ⊥
+    by true e rest none k there = cc
+    by false e rest none zero there = cc
+    by false e rest none (suc k) there = rest none k test there broken
+
+  -- the rule of this number is broken, and none before it
+  record IsFirstOf (n : ℕ) (rules : List Rule) (number : ℕ) : Type 0 where
+    place : ℕ
+    test : Rule
+    numbers : number ≡ n + place
+    there : slice_get rules place ≡ Some test
+    broken : test before fact ≡ true
+    least : (k : ℕ) (other : Rule) → slice_get rules k ≡ Some other → other before fact ≡ true → place ≤ k
+
+  first_of : (n : ℕ) (rules : List Rule) (number : ℕ) → first_broken n rules before fact ≡ Some number → IsFirstOf n rules number
+  first_of n [] number some = absurd cc
+  first_of n (rule ∷ rules) number some = by (rule before fact) refl (first_of (n + 1) rules number) some where
+    behind : rule before fact ≡ false → (place : ℕ) → ((k : ℕ) (other : Rule) → slice_get rules k ≡ Some other → other before fact ≡ true → place ≤ k)
+        → (k : ℕ) (other : Rule) → slice_get (rule ∷ rules) k ≡ Some other → other before fact ≡ true → suc place ≤ k
+    behind e place least zero other there broken = absurd cc
+    behind e place least (suc k) other there broken = omega (arith, least k other there broken)
+
+    by : (b : Bool) → rule before fact ≡ b → (first_broken (n + 1) rules before fact ≡ Some number → IsFirstOf (n + 1) rules number)
+        → (if b then Some n else first_broken (n + 1) rules before fact) ≡ Some number → IsFirstOf n (rule ∷ rules) number
+    by true e rest some = let same : n ≡ number = cc in record { place = 0; test = rule; numbers = omega arith; there = refl; broken = e; least = λ k other there broken. omega arith }
+    by false e rest some =
+        let r = rest some in
+        record { place = suc r.place; test = r.test; numbers = omega (arith, r.numbers); there = r.there; broken = r.broken; least = behind e r.place r.least }
+
+  -- where no rule about names is broken, the others come
+  pub names_first : option_or (first_broken 1 name_rules before fact) (first_broken 5 limit_rules before fact) ≡ least_rule before fact
+  unfolding least_rule
+  names_first = by (has_capital before fact) (is_taken before fact) (is_unknown before fact) (is_misused before fact) where
+    rest : Option ℕ
+    rest = first_broken 5 limit_rules before fact
+
+    by : (a b c d : Bool) → option_or (if a then Some 1 else (if b then Some 2 else (if c then Some 3 else (if d then Some 4 else None)))) rest
+        ≡ (if a then Some 1 else (if b then Some 2 else (if c then Some 3 else (if d then Some 4 else rest))))
+    by true b c d = refl
+    by false true c d = refl
+    by false false true d = refl
+    by false false false true = refl
+    by false false false false = refl
 
 module _ (texts : List (List ℕ)) where
   -- the note breaks the rule, behind those before
@@ -81,13 +127,13 @@ module _ (texts : List (List ℕ)) where
 
     none_broken : least_rule seen fact ≡ None → (rule : ℕ) → ¬ Broken notes note rule
     unfolding least_rule
-    none_broken none rule b = none_passes (λ (test : List Fact → Fact → Bool). test seen fact) rules none b.number.0 b.test b.number.2 b.broken
+    none_broken none rule b = none_of seen fact 1 rules none b.number.0 b.test b.number.2 b.broken
 
     least_broken : (least : ℕ) → least_rule seen fact ≡ Some least → Broken notes note least × ((rule : ℕ) → Broken notes note rule → least ≤ rule)
     unfolding least_rule
     least_broken least some =
-        let first = first_passes (λ (test : List Fact → Fact → Bool). test seen fact) rules has_capital least some in (
-          record { test = first.element; number = (first.place, first.numbers, first.there); broken = first.passes },
+        let first = first_of seen fact 1 rules least some in (
+          record { test = first.test; number = (first.place, omega (arith, first.numbers), first.there); broken = first.broken },
           λ rule b. omega (arith, first.numbers, b.number.1, first.least b.number.0 b.test b.number.2 b.broken),
         )
 

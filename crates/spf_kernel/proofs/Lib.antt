@@ -12,6 +12,7 @@ pub mod FewestPieces
 pub mod FirstBreach
 pub mod FittingNames
 pub mod GivenNames
+pub mod Kept
 pub mod Mapped
 pub mod NameLists
 pub mod Named
@@ -28,7 +29,6 @@ pub mod OneAnswer
 pub mod OneKernel
 pub mod Parsing
 pub mod Pieces
-pub mod Places
 pub mod PrintEquations
 pub mod PrintedConstants
 pub mod PrintedParses

@@ -1,11 +1,10 @@
 -- What the rules ask of the facts before one: how many have which role, and which names they declare.
-use Rattle.std.specs.Prelude.{ℕ, ◌≡◌, List, [], Bool, fold}
+use Rattle.std.specs.Prelude.{ℕ, List, [], fold}
 use Rattle.std.specs.Str.{bytes_eq}
 use Rattle.indexmap.specs.IndexSet.{insert_key}
-use Rattle.spf_kernel.specs.Types.{Note}
 use Rattle.spf_kernel.specs.declared.before.Before.{Before}
 use Rattle.spf_kernel.specs.Counts.{counts_of}
-use Rattle.spf_kernel.specs.Facts.{Fact, fact_of}
+use Rattle.spf_kernel.specs.Facts.{Fact}
 use Rattle.spf_kernel.specs.Rules.{is_param, is_table, is_data, is_loop, names_that}
 
 -- each name once, where it first comes
@@ -20,7 +19,3 @@ before_of facts = record {
   data_arrays = once (names_that is_data facts);
   loops = once (names_that is_loop facts);
 }
-
--- the answer is what the rule says of the note, whatever facts this stands for
-abbrev pub Tells : (List Fact → Fact → Bool) → List (List ℕ) → Before → Note → Bool → Type 0
-Tells rule texts before note answer = (facts : List Fact) → before ≡ before_of facts → answer ≡ rule facts (fact_of texts note)

@@ -1,65 +1,49 @@
 -- Trees that are small enough: no index expression passes 64 bits, and the sites of a loop have numbers of 32 bits.
-use Rattle.std.specs.Prelude.{◌<◌, ◌≤◌, ◌^◌, length, All, ⊤}
+use Rattle.std.specs.Prelude.{ℕ, ◌<◌, ◌≤◌, ◌^◌, length, All, ⊤}
 use Rattle.std.specs.List.{sum_by}
 use Rattle.spf_term.specs.Bounded.{IsBounded}
 use Rattle.spf_kernel.specs.BodySites.{item_sites}
+use Rattle.spf_kernel.specs.Kept.{Property, KeepsValue, KeepProds, KeepFactors, KeepsFactor, KeepsAssign, KeepsCond, KeepsGuard, KeepsPart, KeepsItem, KeepsDecl}
 use Rattle.spf_kernel.specs.TreeNames.{names_in}
-use Rattle.spf_kernel.specs.declared.tree.Value.{Value, Value', Row_of-Prod, end_of-Prod, more_of-Prod, Row_of-Factor, end_of-Factor, more_of-Factor}
-use Rattle.spf_kernel.specs.declared.tree.Factor.{Factor}
+use Rattle.spf_kernel.specs.Types.{Value, Row_of-Prod, Row_of-Factor, Factor, Assign, Cond, Guard, Part, Item, Loop, Decl, Tree}
 use Rattle.spf_kernel.specs.declared.tree.Factor.TheVariants as factor_is
-use Rattle.spf_kernel.specs.declared.tree.Assign.{Assign}
-use Rattle.spf_kernel.specs.declared.tree.Cond.{Cond}
-use Rattle.spf_kernel.specs.declared.tree.Guard.{Guard}
-use Rattle.spf_kernel.specs.declared.tree.Part.{Part}
-use Rattle.spf_kernel.specs.declared.tree.Part.TheVariants as part_is
-use Rattle.spf_kernel.specs.declared.tree.Item.{Item}
-use Rattle.spf_kernel.specs.declared.tree.Item.TheVariants as item_is
-use Rattle.spf_kernel.specs.declared.tree.Loop.{Loop}
-use Rattle.spf_kernel.specs.declared.tree.DataDecl.{DataDecl}
-use Rattle.spf_kernel.specs.declared.tree.Decl.{Decl}
-use Rattle.spf_kernel.specs.declared.tree.Decl.TheVariants.{Params, Index, Values}
-use Rattle.spf_kernel.specs.declared.tree.Tree.{Tree}
 
-abbrev mutual
-  pub IsBoundedValue : Value → Type 0
-  IsBoundedValue (Value' shape prods) = AreBoundedProds prods
+-- an entry's index expression is bounded
+abbrev pub HasBounded : Factor → Type 0
+HasBounded (factor_is.Index array sub) = IsBounded sub
+HasBounded (factor_is.Cell array sub) = IsBounded sub
+HasBounded fact = ⊤
 
-  pub AreBoundedProds : {n : _} → Row_of-Prod n → Type 0
-  AreBoundedProds end_of-Prod = ⊤
-  AreBoundedProds (more_of-Prod minus shape facts others) = AreBoundedFactors facts × AreBoundedProds others
+-- whatever variables are in scope
+abbrev pub bounded : Property
+bounded = record { ix = IsBounded; leaf = HasBounded; array = λ number. ⊤ }
 
-  pub AreBoundedFactors : {n : _} → Row_of-Factor n → Type 0
-  AreBoundedFactors end_of-Factor = ⊤
-  AreBoundedFactors (more_of-Factor fact others) = IsBoundedFactor fact × AreBoundedFactors others
+abbrev pub IsBoundedValue : Value → Type 0
+IsBoundedValue = KeepsValue bounded
 
-  pub IsBoundedFactor : Factor → Type 0
-  IsBoundedFactor (factor_is.Number number) = ⊤
-  IsBoundedFactor (factor_is.Paren value) = IsBoundedValue value
-  IsBoundedFactor (factor_is.Param number) = ⊤
-  IsBoundedFactor (factor_is.Var number) = ⊤
-  IsBoundedFactor (factor_is.Index array sub) = IsBounded sub
-  IsBoundedFactor (factor_is.Cell array sub) = IsBounded sub
+abbrev pub AreBoundedProds : {n : _} → Row_of-Prod n → Type 0
+AreBoundedProds row = KeepProds bounded row
 
-pub record IsBoundedAssign (assign : Assign) : Type 0 where
-  pub sub : IsBounded assign.sub
-  pub value : IsBoundedValue assign.value
+abbrev pub AreBoundedFactors : {n : _} → Row_of-Factor n → Type 0
+AreBoundedFactors row = KeepFactors bounded row
 
-pub record IsBoundedCond (cond : Cond) : Type 0 where
-  pub left : IsBounded cond.left
-  pub right : IsBounded cond.right
+abbrev pub IsBoundedFactor : Factor → Type 0
+IsBoundedFactor = KeepsFactor bounded
 
-pub record IsBoundedGuard (guard : Guard) : Type 0 where
-  pub conds : All IsBoundedCond guard.conds
-  pub body : All IsBoundedAssign guard.body
+abbrev pub IsBoundedAssign : Assign → Type 0
+IsBoundedAssign = KeepsAssign bounded
+
+abbrev pub IsBoundedCond : Cond → Type 0
+IsBoundedCond = KeepsCond bounded
+
+abbrev pub IsBoundedGuard : Guard → Type 0
+IsBoundedGuard = KeepsGuard bounded
 
 abbrev pub IsBoundedPart : Part → Type 0
-IsBoundedPart (part_is.Assign assign) = IsBoundedAssign assign
-IsBoundedPart (part_is.Branch guard) = IsBoundedGuard guard
+IsBoundedPart = KeepsPart bounded
 
 abbrev pub IsBoundedItem : Item → Type 0
-IsBoundedItem (item_is.Assign assign) = IsBoundedAssign assign
-IsBoundedItem (item_is.Branch guard) = IsBoundedGuard guard
-IsBoundedItem (item_is.Inner var low high parts) = IsBounded low × IsBounded high × All IsBoundedPart parts
+IsBoundedItem = KeepsItem (λ variables. bounded)
 
 pub record IsBoundedLoop (loop : Loop) : Type 0 where
   pub low : IsBounded loop.low
@@ -68,9 +52,7 @@ pub record IsBoundedLoop (loop : Loop) : Type 0 where
   pub sites : sum_by item_sites loop.items < 2 ^ 31
 
 abbrev pub IsBoundedDecl : Decl → Type 0
-IsBoundedDecl (Params names) = ⊤
-IsBoundedDecl (Index name size low high trend) = IsBounded size × IsBounded low × IsBounded high
-IsBoundedDecl (Values arrays) = All (λ (array : DataDecl). IsBounded array.size) arrays
+IsBoundedDecl = KeepsDecl (λ variables. bounded)
 
 pub record IsBoundedTree (tree : Tree) : Type 0 where
   pub decls : All IsBoundedDecl tree.decls

@@ -1,8 +1,7 @@
 -- How many facts have the roles that the limits are about.
-use Rattle.std.specs.Prelude.{ℕ, ◌≡◌, ◌<◌, Bool, List}
-use Rattle.spf_kernel.specs.Types.{Note}
+use Rattle.std.specs.Prelude.{ℕ, ◌<◌, List}
 use Rattle.spf_kernel.specs.declared.counts.Counts.{Counts}
-use Rattle.spf_kernel.specs.Facts.{Fact, fact_of}
+use Rattle.spf_kernel.specs.Facts.{Fact}
 use Rattle.spf_kernel.specs.Rules.{is_param, is_table, is_data, is_loop, is_target, is_site, is_factor, is_guard, is_condition, count_that, since}
 
 unfoldable pub counts_of : List Fact → Counts
@@ -27,7 +26,3 @@ pub record IsBelow (limit : ℕ) (counts : Counts) : Type 0 where
   pub factors : counts.factors < limit
   pub conditions : counts.conditions < limit
   pub sites : counts.sites < limit
-
--- the answer is what the rule says of the note, whatever facts were counted
-abbrev pub TellsByCounts : (List Fact → Fact → Bool) → Counts → Note → Bool → Type 0
-TellsByCounts rule counts note answer = (texts : List (List ℕ)) (facts : List Fact) → counts ≡ counts_of facts → answer ≡ rule facts (fact_of texts note)

@@ -5,6 +5,7 @@ pub mod Checked
 pub mod Counts
 pub mod Facts
 pub mod IsKernel
+pub mod Kept
 pub mod Named
 pub mod Names
 pub mod Notes

@@ -169,11 +169,15 @@ is_late_condition before fact = is_condition fact.says && nat_le 4 (count_that i
 abbrev pub is_late_site : List Fact → Fact → Bool
 is_late_site before fact = is_site fact.says && nat_le 256 (count_that is_site before)
 
--- the rules from 1 on
+-- the rules from 1 on, of which the first four are about names
+abbrev pub name_rules : List (List Fact → Fact → Bool)
+name_rules = has_capital ∷ is_taken ∷ is_unknown ∷ is_misused ∷ []
+
+abbrev pub limit_rules : List (List Fact → Fact → Bool)
+limit_rules = is_large ∷ is_late_name ∷ is_late_loop ∷ is_late_target ∷ is_late_part ∷ is_late_condition ∷ is_late_site ∷ []
+
 abbrev pub rules : List (List Fact → Fact → Bool)
-rules =
-    has_capital ∷ is_taken ∷ is_unknown ∷ is_misused ∷ is_large ∷ is_late_name ∷ is_late_loop ∷ is_late_target ∷ is_late_part
-    ∷ is_late_condition ∷ is_late_site ∷ []
+rules = name_rules ++ limit_rules
 
 module _ (texts : List (List ℕ)) where
   -- the token at `place` breaks the rule

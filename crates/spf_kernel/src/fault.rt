@@ -21,23 +21,11 @@ pub enum KernelFault {
     Memory,
 }
 
-impl From<NoMemory> for KernelFault {
-    ghost use Rattle.spf_kernel.specs.declared.fault.KernelFault.TheVariants.{Memory};
-
-    ghost from_gives = { λ _ fault. fault ≡ Memory };
-
-    fn from(_error: NoMemory) -> KernelFault {
-        KernelFault::Memory
-    }
-}
-
 /// Why a raw tree is no kernel.
-#[derive(Debug, Drop, Error)]
+#[derive(Drop)]
 pub enum Unkept {
     /// The token there breaks this rule.
-    #[error("rule")]
     Rule { place: Place, rule: u32 },
-    #[error("out of memory")]
     Memory,
 }
 

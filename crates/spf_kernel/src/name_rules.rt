@@ -7,8 +7,9 @@ ghost use Rattle.std.specs.Char.{is_ascii_uppercase};
 ghost use Rattle.spf_lex.specs.Tokens.{texts};
 ghost use Rattle.spf_kernel.specs.declared.note.Spot.{Spot};
 ghost use Rattle.spf_kernel.specs.Facts.{Fact, fact_of, variables_in};
-ghost use Rattle.spf_kernel.specs.Rules.{has_capital, is_taken, is_unknown, is_misused, is_in_scope, is_known, fits};
-ghost use Rattle.spf_kernel.specs.Before.{Tells, before_of};
+ghost use Rattle.spf_kernel.specs.Rules.{name_rules, is_in_scope, is_known, fits};
+ghost use Rattle.spf_kernel.specs.Before.{before_of};
+ghost use Rattle.spf_kernel.specs.Checked.{first_broken};
 
 use crate::before::Before;
 use crate::names::text_of;
@@ -61,38 +62,6 @@ fn has_upper(text: &[u8]) -> bool
     text.iter().any(|byte| byte.is_ascii_uppercase())
 }
 
-/// 1: a declared name, loop name or variable has a letter from `A` to `Z`. Linear in the name.
-pub(crate) fn has_capital(tokens: &Tokens, note: &Note) -> bool
-    ensures { (facts : List Fact) → result ≡ has_capital facts (fact_of (texts tokens.now) note.now) }
-{
-    match note.says {
-        Says::Declared(_) | Says::Variable => has_upper(text_of(tokens, note.token)),
-        _ => false,
-    }
-}
-
-/// 2: it is a name that was declared before, or an inner variable with the name of the outer one. Linear in it on average.
-pub(crate) fn is_taken(tokens: &Tokens, before: &Before, note: &Note) -> bool
-    ensures { Tells is_taken (texts tokens.now) before.now note.now result }
-{
-    match note.says {
-        Says::Declared(_) | Says::Variable => {
-            is_known(tokens, before, note.scope, text_of(tokens, note.token))
-        }
-        _ => false,
-    }
-}
-
-/// 3: a name is used that was not declared before, and is no variable in scope. Linear in it on average.
-pub(crate) fn is_unknown(tokens: &Tokens, before: &Before, note: &Note) -> bool
-    ensures { Tells is_unknown (texts tokens.now) before.now note.now result }
-{
-    match note.says {
-        Says::Used { .. } => !is_known(tokens, before, note.scope, text_of(tokens, note.token)),
-        _ => false,
-    }
-}
-
 /// Whether the name may stand there, with brackets or without. Linear in it on average.
 fn fits(
     tokens: &Tokens,
@@ -111,16 +80,24 @@ fn fits(
     }
 }
 
-/// 4: a known name is used that may not stand there. Linear in it on average.
-pub(crate) fn is_misused(tokens: &Tokens, before: &Before, note: &Note) -> bool
-    ensures { Tells is_misused (texts tokens.now) before.now note.now result }
+/// The least of rules 1 to 4 that the note breaks. Linear in its name on average.
+pub(crate) fn name_rule(tokens: &Tokens, before: &Before, note: &Note) -> Option<u32>
+    ensures { (facts : List Fact) → before.now ≡ before_of facts → result ≡ first_broken 1 name_rules facts (fact_of (texts tokens.now) note.now) }
 {
+    let name = text_of(tokens, note.token);
     match note.says {
-        Says::Used { brackets, spot } => {
-            let name = text_of(tokens, note.token);
-            is_known(tokens, before, note.scope, name)
-                && !fits(tokens, before, note.scope, name, brackets, spot)
+        Says::Declared(_) | Says::Variable => {
+            if has_upper(name) {
+                return Some(1);
+            }
+            is_known(tokens, before, note.scope, name).then_some(2)
         }
-        _ => false,
+        Says::Used { brackets, spot } => {
+            if !is_known(tokens, before, note.scope, name) {
+                return Some(3);
+            }
+            (!fits(tokens, before, note.scope, name, brackets, spot)).then_some(4)
+        }
+        _ => None,
     }
 }

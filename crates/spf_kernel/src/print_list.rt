@@ -1,11 +1,49 @@
-//! Printing what stands between the parts of lists and sums.
+//! Printing lists, and what stands between the parts of lists and sums.
 
-ghost use Rattle.std.specs.Prelude.{◌≡◌, ◌++◌, ◌∷◌, [], IsTrue, OnOk};
+ghost use Rattle.std.specs.Prelude.{ℕ, ◌≡◌, ◌++◌, ◌∷◌, List, [], IsTrue, OnOk, flat_map};
 ghost use Rattle.spf_lex.specs.Joined.{has_no_blank};
-ghost use Rattle.spf_kernel.specs.Printed.{lead_words, separator, sign_at, sign_word};
+ghost use Rattle.spf_kernel.specs.Printed.{lead_words, separated, separator, sign_at, sign_word};
+ghost use Rattle.spf_kernel.specs.declared.tree_names.TreeNames.{TreeNames};
 
+use crate::tree_names::Shown;
 use spf_base::NoMemory;
 use spf_lex::Words;
+
+/// A part of a tree that is printed as words.
+pub trait Print {
+    ghost printed: { TreeNames → List (List ℕ) → Self → List (List ℕ) };
+
+    /// Writes its words. Linear in it and in how many numbers its constants are written as.
+    fn push(&self, words: &mut Words, shown: &Shown) -> Result<(), NoMemory>
+        ensures { OnOk result (words.new ≡ words.old ++ printed shown.now.names.now shown.now.vars.now self.now) };
+}
+
+/// Writes the parts one behind another.
+pub fn push_all<T: Print>(words: &mut Words, shown: &Shown, parts: &[T]) -> Result<(), NoMemory>
+    ensures { OnOk result (words.new ≡ words.old ++ flat_map (T.printed shown.now.names.now shown.now.vars.now) parts.now) }
+{
+    for part in parts {
+        part.push(words, shown)?;
+    }
+    Ok(())
+}
+
+/// Writes the parts with this word between two.
+pub fn push_separated<T: Print>(
+    words: &mut Words,
+    shown: &Shown,
+    between: &[u8],
+    parts: &[T],
+) -> Result<(), NoMemory>
+    requires { IsTrue (has_no_blank between.now) }
+    ensures { OnOk result (words.new ≡ words.old ++ separated between.now (T.printed shown.now.names.now shown.now.vars.now) parts.now) }
+{
+    for (n, part) in parts.iter().enumerate() {
+        push_separator(words, between, n)?;
+        part.push(words, shown)?;
+    }
+    Ok(())
+}
 
 /// Writes what stands in front of the first part of a sum.
 pub fn push_lead(words: &mut Words, minus: bool) -> Result<(), NoMemory>

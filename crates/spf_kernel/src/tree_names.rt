@@ -20,6 +20,7 @@ pub struct TreeNames {
 /// The names by which numbers are printed: those that declarations give, and those of the variables in scope.
 #[derive(Drop)]
 pub struct Shown<'a> {
+    pub alloc: Global,
     pub names: &'a TreeNames,
     pub vars: &'a Items<Name>,
 }
