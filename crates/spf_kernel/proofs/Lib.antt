@@ -13,7 +13,6 @@ pub mod FirstBreach
 pub mod FittingNames
 pub mod GivenNames
 pub mod Kept
-pub mod Mapped
 pub mod NameLists
 pub mod Named
 pub mod NamedLists

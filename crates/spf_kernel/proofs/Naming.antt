@@ -29,6 +29,9 @@ module _ (texts : List (List ℕ)) where
   at notes (x ∷ xs) zero d l h = names_left (notes x) (flat_map notes xs) h
   at notes (x ∷ xs) (suc i) d l h = at notes xs i d (omega arith) (names_right (notes x) (flat_map notes xs) h)
 
+  pub names_each : {X : Type 0} (notes : X → List Note) (xs : List X) → AreNames texts (flat_map notes xs) → All (λ x. AreNames texts (notes x)) xs
+  names_each notes xs h = λ i d l. at notes xs i d l h
+
   -- the notes of one of the things that the notes are of
   pub names_at : {X : Type 0} (notes : X → List Note) (xs : List X) (i : ℕ) (x : X) → i < length xs → x ≡ get_or xs i x → AreNames texts (flat_map notes xs) → AreNames texts (notes x)
   names_at notes xs i x l e h = subst (λ y. AreNames texts (notes y)) (sym e) (at notes xs i x l h)

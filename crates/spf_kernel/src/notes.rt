@@ -1,6 +1,7 @@
 //! The notes of a raw tree.
 
-ghost use Rattle.std.specs.Prelude.{◌≡◌, ◌-◌, [], ◌∷◌, ◌++◌, length, map, flat_map, OnOk, IfOk};
+ghost use Rattle.std.specs.Prelude.{◌≡◌, ◌-◌, List, [], ◌∷◌, ◌++◌, length, map, flat_map, OnOk, IfOk};
+ghost use Rattle.spf_kernel.specs.Types.{Note, Scope};
 ghost use Rattle.spf_kernel.specs.Notes.{note, mark, mono_head, number_limit, number_notes, ix_monomials, mono_monomials, atom_monomials, monomial_limit, excess_notes, ix_notes, mono_notes, atom_notes, expression_notes, read_notes, fact_notes, value_notes};
 ghost use Rattle.spf_kernel.specs.Notes.{ix_head, conds_head, assign_notes, cond_notes, guard_notes, part_notes, item_notes, loop_notes, cells_notes, param_note, head_notes, decl_notes, kernel_notes};
 
@@ -28,6 +29,25 @@ const MOST_MONOMIALS: usize = 64;
 
 /// Of a loop's bound.
 const MOST_BOUND_MONOMIALS: usize = 8;
+
+/// A part of a raw tree that says something, where these variables are in scope.
+trait Noted {
+    ghost noted: { Scope → Self → List Note };
+
+    /// Writes its notes behind the others. Linear in it.
+    fn note(&self, notes: &mut Items<Note>, scope: Scope) -> Result<(), NoMemory>
+        ensures { OnOk result (notes.new ≡ notes.old ++ noted scope self.now) };
+}
+
+/// Writes the notes of each part.
+fn note_all<T: Noted>(notes: &mut Items<Note>, scope: Scope, parts: &[T]) -> Result<(), NoMemory>
+    ensures { OnOk result (notes.new ≡ notes.old ++ flat_map (T.noted scope) parts.now) }
+{
+    for part in parts {
+        part.note(notes, scope)?;
+    }
+    Ok(())
+}
 
 /// The first token of a monomial.
 fn mono_head(mono: &RawMono) -> Token
@@ -259,16 +279,18 @@ pub fn note_value(notes: &mut Items<Note>, scope: Scope, value: &RawValue) -> Re
 
 // ---- statements
 
-fn note_assign(notes: &mut Items<Note>, scope: Scope, assign: &RawAssign) -> Result<(), NoMemory>
-    ensures { OnOk result (notes.new ≡ notes.old ++ assign_notes scope assign.now) }
-{
-    let says = Says::Used {
-        brackets: true,
-        spot: Spot::Target,
-    };
-    push(notes, assign.array, says, scope)?;
-    note_expression(notes, Spot::Body, scope, &assign.at)?;
-    note_value(notes, scope, &assign.value)
+impl Noted for RawAssign {
+    ghost noted = { assign_notes };
+
+    fn note(&self, notes: &mut Items<Note>, scope: Scope) -> Result<(), NoMemory> {
+        let says = Says::Used {
+            brackets: true,
+            spot: Spot::Target,
+        };
+        push(notes, self.array, says, scope)?;
+        note_expression(notes, Spot::Body, scope, &self.at)?;
+        note_value(notes, scope, &self.value)
+    }
 }
 
 /// The first token of an index expression.
@@ -281,25 +303,14 @@ fn ix_head(ix: &RawIx) -> Token
     }
 }
 
-fn note_cond(notes: &mut Items<Note>, scope: Scope, cond: &RawCond) -> Result<(), NoMemory>
-    ensures { OnOk result (notes.new ≡ notes.old ++ cond_notes scope cond.now) }
-{
-    push_mark(notes, ix_head(&cond.left), Says::Condition)?;
-    note_expression(notes, Spot::Body, scope, &cond.left)?;
-    note_expression(notes, Spot::Body, scope, &cond.right)
-}
+impl Noted for RawCond {
+    ghost noted = { cond_notes };
 
-fn note_assigns(
-    notes: &mut Items<Note>,
-    scope: Scope,
-    assigns: &[RawAssign],
-) -> Result<(), NoMemory>
-    ensures { OnOk result (notes.new ≡ notes.old ++ flat_map (assign_notes scope) assigns.now) }
-{
-    for assign in assigns {
-        note_assign(notes, scope, assign)?;
+    fn note(&self, notes: &mut Items<Note>, scope: Scope) -> Result<(), NoMemory> {
+        push_mark(notes, ix_head(&self.left), Says::Condition)?;
+        note_expression(notes, Spot::Body, scope, &self.left)?;
+        note_expression(notes, Spot::Body, scope, &self.right)
     }
-    Ok(())
 }
 
 /// The first token of the conditions of an `if`.
@@ -316,18 +327,18 @@ fn note_guard(notes: &mut Items<Note>, scope: Scope, guard: &RawGuard) -> Result
     ensures { OnOk result (notes.new ≡ notes.old ++ guard_notes scope guard.now) }
 {
     push_mark(notes, conds_head(guard.conds.as_slice()), Says::Guard)?;
-    for cond in guard.conds.as_slice() {
-        note_cond(notes, scope, cond)?;
-    }
-    note_assigns(notes, scope, guard.body.as_slice())
+    note_all(notes, scope, guard.conds.as_slice())?;
+    note_all(notes, scope, guard.body.as_slice())
 }
 
-fn note_part(notes: &mut Items<Note>, scope: Scope, part: &RawPart) -> Result<(), NoMemory>
-    ensures { OnOk result (notes.new ≡ notes.old ++ part_notes scope part.now) }
-{
-    match part {
-        RawPart::Assign(assign) => note_assign(notes, scope, assign),
-        RawPart::Guard(guard) => note_guard(notes, scope, guard),
+impl Noted for RawPart {
+    ghost noted = { part_notes };
+
+    fn note(&self, notes: &mut Items<Note>, scope: Scope) -> Result<(), NoMemory> {
+        match self {
+            RawPart::Assign(assign) => assign.note(notes, scope),
+            RawPart::Guard(guard) => note_guard(notes, scope, guard),
+        }
     }
 }
 
@@ -337,41 +348,35 @@ fn note_part(notes: &mut Items<Note>, scope: Scope, part: &RawPart) -> Result<()
 fn note_item(notes: &mut Items<Note>, outer: Token, item: &RawItem) -> Result<(), NoMemory>
     ensures { OnOk result (notes.new ≡ notes.old ++ item_notes outer item.now) }
 {
+    let scope = Scope::Within(outer);
     match item {
-        RawItem::Part(part) => note_part(notes, Scope::Within(outer), part),
+        RawItem::Part(part) => part.note(notes, scope),
         RawItem::Inner(range, parts) => {
-            push(notes, range.var, Says::Variable, Scope::Within(outer))?;
-            note_expression(notes, Spot::Body, Scope::Within(outer), &range.low)?;
-            note_expression(notes, Spot::Body, Scope::Within(outer), &range.high)?;
-            for part in parts.as_slice() {
-                note_part(notes, Scope::Inside(outer, range.var), part)?;
-            }
-            Ok(())
+            push(notes, range.var, Says::Variable, scope)?;
+            note_expression(notes, Spot::Body, scope, &range.low)?;
+            note_expression(notes, Spot::Body, scope, &range.high)?;
+            note_all(notes, Scope::Inside(outer, range.var), parts.as_slice())
         }
     }
 }
 
-#[tactic(auto, unfolding(crate::specs::Notes::loop_notes))]
-fn note_loop(notes: &mut Items<Note>, each: &RawLoop) -> Result<(), NoMemory>
-    ensures { OnOk result (notes.new ≡ notes.old ++ loop_notes each.now) }
-{
-    push(notes, each.name, Says::Declared(Sort::Loop), Scope::Nothing)?;
-    push(notes, each.range.var, Says::Variable, Scope::Nothing)?;
-    note_expression(notes, Spot::Bound, Scope::Nothing, &each.range.low)?;
-    note_expression(notes, Spot::Bound, Scope::Nothing, &each.range.high)?;
-    for item in each.items.as_slice() {
-        note_item(notes, each.range.var, item)?;
+impl Noted for RawLoop {
+    ghost noted = { λ scope. loop_notes };
+
+    #[tactic(auto, unfolding(crate::specs::Notes::loop_notes))]
+    fn note(&self, notes: &mut Items<Note>, _scope: Scope) -> Result<(), NoMemory> {
+        push(notes, self.name, Says::Declared(Sort::Loop), Scope::Nothing)?;
+        push(notes, self.range.var, Says::Variable, Scope::Nothing)?;
+        note_expression(notes, Spot::Bound, Scope::Nothing, &self.range.low)?;
+        note_expression(notes, Spot::Bound, Scope::Nothing, &self.range.high)?;
+        for item in self.items.as_slice() {
+            note_item(notes, self.range.var, item)?;
+        }
+        Ok(())
     }
-    Ok(())
 }
 
 // ---- declarations
-
-fn note_param(notes: &mut Items<Note>, name: Token) -> Result<(), NoMemory>
-    ensures { OnOk result (notes.new ≡ notes.old ++ param_note name ∷ []) }
-{
-    push(notes, name, Says::Declared(Sort::Param), Scope::Nothing)
-}
 
 fn note_head(notes: &mut Items<Note>, ix: &RawIx) -> Result<(), NoMemory>
     ensures { OnOk result (notes.new ≡ notes.old ++ head_notes ix.now) }
@@ -379,77 +384,45 @@ fn note_head(notes: &mut Items<Note>, ix: &RawIx) -> Result<(), NoMemory>
     note_expression(notes, Spot::Head, Scope::Nothing, ix)
 }
 
-fn note_cells(notes: &mut Items<Note>, array: &RawSized) -> Result<(), NoMemory>
-    ensures { OnOk result (notes.new ≡ notes.old ++ cells_notes array.now) }
-{
-    push(
-        notes,
-        array.name,
-        Says::Declared(Sort::Data),
-        Scope::Nothing,
-    )?;
-    note_head(notes, &array.size)
-}
-
 fn note_params(notes: &mut Items<Note>, names: &[Token]) -> Result<(), NoMemory>
     ensures { OnOk result (notes.new ≡ notes.old ++ map param_note names.now) }
 {
     for name in names {
-        note_param(notes, *name)?;
+        push(notes, *name, Says::Declared(Sort::Param), Scope::Nothing)?;
     }
     Ok(())
 }
 
-fn note_all_cells(notes: &mut Items<Note>, arrays: &[RawSized]) -> Result<(), NoMemory>
-    ensures { OnOk result (notes.new ≡ notes.old ++ flat_map cells_notes arrays.now) }
-{
-    for array in arrays {
-        note_cells(notes, array)?;
+impl Noted for RawSized {
+    ghost noted = { λ scope. cells_notes };
+
+    fn note(&self, notes: &mut Items<Note>, _scope: Scope) -> Result<(), NoMemory> {
+        push(notes, self.name, Says::Declared(Sort::Data), Scope::Nothing)?;
+        note_head(notes, &self.size)
     }
-    Ok(())
 }
 
-fn note_decl(notes: &mut Items<Note>, decl: &RawDecl) -> Result<(), NoMemory>
-    ensures { OnOk result (notes.new ≡ notes.old ++ decl_notes decl.now) }
-{
-    match decl {
-        RawDecl::Params(names) => note_params(notes, names.as_slice()),
-        RawDecl::Index {
-            array,
-            low,
-            high,
-            ..
-        } => {
-            push(
-                notes,
-                array.name,
-                Says::Declared(Sort::Index),
-                Scope::Nothing,
-            )?;
-            note_head(notes, &array.size)?;
-            note_head(notes, low)?;
-            note_head(notes, high)
+impl Noted for RawDecl {
+    ghost noted = { λ scope. decl_notes };
+
+    fn note(&self, notes: &mut Items<Note>, scope: Scope) -> Result<(), NoMemory> {
+        match self {
+            RawDecl::Params(names) => note_params(notes, names.as_slice()),
+            RawDecl::Index {
+                array,
+                low,
+                high,
+                ..
+            } => {
+                let says = Says::Declared(Sort::Index);
+                push(notes, array.name, says, Scope::Nothing)?;
+                note_head(notes, &array.size)?;
+                note_head(notes, low)?;
+                note_head(notes, high)
+            }
+            RawDecl::Values(arrays) => note_all(notes, scope, arrays.as_slice()),
         }
-        RawDecl::Values(arrays) => note_all_cells(notes, arrays.as_slice()),
     }
-}
-
-fn note_decls(notes: &mut Items<Note>, decls: &[RawDecl]) -> Result<(), NoMemory>
-    ensures { OnOk result (notes.new ≡ notes.old ++ flat_map decl_notes decls.now) }
-{
-    for decl in decls {
-        note_decl(notes, decl)?;
-    }
-    Ok(())
-}
-
-fn note_loops(notes: &mut Items<Note>, loops: &[RawLoop]) -> Result<(), NoMemory>
-    ensures { OnOk result (notes.new ≡ notes.old ++ flat_map loop_notes loops.now) }
-{
-    for each in loops {
-        note_loop(notes, each)?;
-    }
-    Ok(())
 }
 
 /// The notes of a kernel. Linear in it.
@@ -458,8 +431,8 @@ pub fn notes_of(alloc: Global, kernel: &RawKernel) -> Result<Items<Note>, NoMemo
     ensures { IfOk result (λ notes. notes ≡ kernel_notes kernel.now) }
 {
     let mut notes = Items::new(alloc);
-    note_decls(&mut notes, kernel.decls.as_slice())?;
+    note_all(&mut notes, Scope::Nothing, kernel.decls.as_slice())?;
     note_head(&mut notes, &kernel.steps)?;
-    note_loops(&mut notes, kernel.loops.as_slice())?;
+    note_all(&mut notes, Scope::Nothing, kernel.loops.as_slice())?;
     Ok(notes)
 }

@@ -1,13 +1,14 @@
 //! The public tree that a raw tree means.
 
-ghost use Rattle.std.specs.Prelude.{◌≡◌, ◌++◌, IfOk, All, map, flat_map};
+ghost use Rattle.std.specs.Prelude.{ℕ, ◌≡◌, IfOk, List, All, map};
 ghost use Rattle.spf_base.specs.Word.{IsName};
 ghost use Rattle.spf_lex.specs.Tokens.{texts};
 ghost use Rattle.spf_kernel.specs.Facts.{text_of};
+ghost use Rattle.spf_kernel.specs.Names.{Names};
+ghost use Rattle.spf_kernel.specs.Notes.{kernel_notes};
+ghost use Rattle.spf_kernel.specs.Resolved.{tree_of};
 ghost use Rattle.spf_kernel.specs.Rules.{tokens_that, is_naming};
-ghost use Rattle.spf_kernel.specs.Notes.{kernel_notes, decl_notes, loop_notes};
-ghost use Rattle.spf_kernel.specs.Scopes.{nothing};
-ghost use Rattle.spf_kernel.specs.Resolved.{AreNames, decl_of, loop_of, tree_of};
+ghost use Rattle.spf_kernel.specs.Types.{Scope};
 
 mod declarations;
 mod loops;
@@ -18,29 +19,37 @@ mod variables;
 
 use crate::names::Source;
 use crate::note::Scope;
-use crate::raw::{RawDecl, RawKernel, RawLoop};
-use crate::tree::{Decl, Loop, Tree};
+use crate::raw::RawKernel;
+use crate::tree::Tree;
 use spf_base::NoMemory;
 use sqlite_items::Items;
 
-fn resolve_decls(source: &Source, decls: &[RawDecl]) -> Result<Items<Decl>, NoMemory>
-    requires { AreNames (texts source.now.tokens.now) (flat_map decl_notes decls.now) }
-    ensures { IfOk result (λ all. all ≡ map (decl_of (texts source.now.tokens.now) source.now.names.now) decls.now) }
-{
-    let mut all = Items::new(source.alloc);
-    for decl in decls {
-        all.push(declarations::resolve_decl(source, decl)?)?;
-    }
-    Ok(all)
+/// A part of a raw tree that means something, where these variables are in scope.
+trait Means {
+    type Tree: Drop;
+
+    ghost are_names: { List (List ℕ) → Scope → Self → Type 0 };
+
+    ghost meaning: { List (List ℕ) → Names → Scope → Self → Self.Tree };
+
+    /// What it means. Linear in it.
+    fn resolve(&self, source: &Source, scope: Scope) -> Result<Self::Tree, NoMemory>
+        requires { are_names (texts source.now.tokens.now) scope self.now }
+        ensures { IfOk result (λ found. found ≡ meaning (texts source.now.tokens.now) source.now.names.now scope self.now) };
 }
 
-fn resolve_loops(source: &Source, loops: &[RawLoop]) -> Result<Items<Loop>, NoMemory>
-    requires { AreNames (texts source.now.tokens.now) (flat_map loop_notes loops.now) }
-    ensures { IfOk result (λ all. all ≡ map (loop_of (texts source.now.tokens.now) source.now.names.now) loops.now) }
+/// What each part means.
+fn resolve_all<T: Means>(
+    source: &Source,
+    scope: Scope,
+    parts: &[T],
+) -> Result<Items<T::Tree>, NoMemory>
+    requires { All (T.are_names (texts source.now.tokens.now) scope) parts.now }
+    ensures { IfOk result (λ all. all ≡ map (T.meaning (texts source.now.tokens.now) source.now.names.now scope) parts.now) }
 {
     let mut all = Items::new(source.alloc);
-    for item in loops {
-        all.push(loops::resolve_loop(source, item)?)?;
+    for part in parts {
+        all.push(part.resolve(source, scope)?)?;
     }
     Ok(all)
 }
@@ -50,9 +59,10 @@ pub(crate) fn resolve(source: &Source, kernel: &RawKernel) -> Result<Tree, NoMem
     requires { All (λ t. IsName (text_of (texts source.now.tokens.now) t)) (tokens_that is_naming (kernel_notes kernel.now)) }
     ensures { IfOk result (λ tree. tree ≡ tree_of (texts source.now.tokens.now) source.now.names.now kernel.now) }
 {
-    let decls = resolve_decls(source, kernel.decls.as_slice())?;
-    let steps = terms::resolve_ix(source, Scope::Nothing, &kernel.steps)?;
-    let loops = resolve_loops(source, kernel.loops.as_slice())?;
+    let nothing = Scope::Nothing;
+    let decls = resolve_all(source, nothing, kernel.decls.as_slice())?;
+    let steps = terms::resolve_ix(source, nothing, &kernel.steps)?;
+    let loops = resolve_all(source, nothing, kernel.loops.as_slice())?;
     Ok(Tree {
         decls,
         steps,

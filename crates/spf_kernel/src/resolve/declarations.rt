@@ -1,6 +1,6 @@
 //! Declarations, and the names that they give.
 
-ghost use Rattle.std.specs.Prelude.{◌≡◌, IfOk, map, flat_map};
+ghost use Rattle.std.specs.Prelude.{◌≡◌, IfOk, map};
 ghost use Rattle.spf_base.specs.Word.{IsName};
 ghost use Rattle.spf_lex.specs.Tokens.{texts};
 ghost use Rattle.spf_kernel.specs.Facts.{text_of};
@@ -11,6 +11,7 @@ use crate::names::{Source, text_of};
 use crate::note::Scope;
 use crate::raw::{RawDecl, RawIx, RawSized};
 use crate::resolve::terms::resolve_ix;
+use crate::resolve::{Means, resolve_all};
 use crate::tree::{DataDecl, Decl, Trend};
 use spf_base::{Name, NoMemory};
 use spf_lex::Token;
@@ -36,25 +37,19 @@ fn resolve_params(source: &Source, params: &[Token]) -> Result<Items<Name>, NoMe
     Ok(all)
 }
 
-fn resolve_array(source: &Source, array: &RawSized) -> Result<DataDecl, NoMemory>
-    requires { AreNames (texts source.now.tokens.now) (cells_notes array.now) }
-    ensures { IfOk result (λ found. found ≡ data_decl_of (texts source.now.tokens.now) source.now.names.now array.now) }
-{
-    Ok(DataDecl {
-        name: resolve_name(source, array.name)?,
-        size: resolve_ix(source, Scope::Nothing, &array.size)?,
-    })
-}
+impl Means for RawSized {
+    type Tree = DataDecl;
 
-fn resolve_arrays(source: &Source, arrays: &[RawSized]) -> Result<Items<DataDecl>, NoMemory>
-    requires { AreNames (texts source.now.tokens.now) (flat_map cells_notes arrays.now) }
-    ensures { IfOk result (λ all. all ≡ map (data_decl_of (texts source.now.tokens.now) source.now.names.now) arrays.now) }
-{
-    let mut all = Items::new(source.alloc);
-    for array in arrays {
-        all.push(resolve_array(source, array)?)?;
+    ghost are_names = { λ texts scope array. AreNames texts (cells_notes array) };
+
+    ghost meaning = { λ texts names scope. data_decl_of texts names };
+
+    fn resolve(&self, source: &Source, _scope: Scope) -> Result<DataDecl, NoMemory> {
+        Ok(DataDecl {
+            name: resolve_name(source, self.name)?,
+            size: resolve_ix(source, Scope::Nothing, &self.size)?,
+        })
     }
-    Ok(all)
 }
 
 fn resolve_table(
@@ -77,25 +72,29 @@ fn resolve_table(
     })
 }
 
-/// The declaration that is meant. Linear in it.
-pub(super) fn resolve_decl(source: &Source, decl: &RawDecl) -> Result<Decl, NoMemory>
-    requires { AreNames (texts source.now.tokens.now) (decl_notes decl.now) }
-    ensures { IfOk result (λ found. found ≡ decl_of (texts source.now.tokens.now) source.now.names.now decl.now) }
-{
-    match decl {
-        RawDecl::Params(params) => {
-            let names = resolve_params(source, params.as_slice())?;
-            Ok(Decl::Params { names })
-        }
-        RawDecl::Index {
-            array,
-            low,
-            high,
-            trend,
-        } => resolve_table(source, array, low, high, *trend),
-        RawDecl::Values(arrays) => {
-            let arrays = resolve_arrays(source, arrays.as_slice())?;
-            Ok(Decl::Values { arrays })
+impl Means for RawDecl {
+    type Tree = Decl;
+
+    ghost are_names = { λ texts scope decl. AreNames texts (decl_notes decl) };
+
+    ghost meaning = { λ texts names scope. decl_of texts names };
+
+    fn resolve(&self, source: &Source, scope: Scope) -> Result<Decl, NoMemory> {
+        match self {
+            RawDecl::Params(params) => {
+                let names = resolve_params(source, params.as_slice())?;
+                Ok(Decl::Params { names })
+            }
+            RawDecl::Index {
+                array,
+                low,
+                high,
+                trend,
+            } => resolve_table(source, array, low, high, *trend),
+            RawDecl::Values(arrays) => {
+                let arrays = resolve_all(source, scope, arrays.as_slice())?;
+                Ok(Decl::Values { arrays })
+            }
         }
     }
 }

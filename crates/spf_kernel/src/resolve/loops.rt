@@ -9,8 +9,9 @@ use crate::names::Source;
 use crate::note::Scope;
 use crate::raw::{RawItem, RawLoop, RawPart};
 use crate::resolve::declarations::resolve_name;
-use crate::resolve::statements::{resolve_assign, resolve_guard, resolve_parts};
+use crate::resolve::statements::resolve_guard;
 use crate::resolve::terms::resolve_ix;
+use crate::resolve::{Means, resolve_all};
 use crate::tree::{Item, Loop};
 use spf_base::NoMemory;
 use spf_lex::Token;
@@ -23,7 +24,7 @@ fn resolve_item(source: &Source, outer: Token, item: &RawItem) -> Result<Item, N
     let within = Scope::Within(outer);
     match item {
         RawItem::Part(RawPart::Assign(assign)) => {
-            let assign = resolve_assign(source, within, assign)?;
+            let assign = assign.resolve(source, within)?;
             Ok(Item::Assign(assign))
         }
         RawItem::Part(RawPart::Guard(guard)) => {
@@ -36,7 +37,7 @@ fn resolve_item(source: &Source, outer: Token, item: &RawItem) -> Result<Item, N
                 var: resolve_name(source, range.var)?,
                 low: resolve_ix(source, within, &range.low)?,
                 high: resolve_ix(source, within, &range.high)?,
-                parts: resolve_parts(source, inside, parts.as_slice())?,
+                parts: resolve_all(source, inside, parts.as_slice())?,
             })
         }
     }
@@ -53,18 +54,22 @@ fn resolve_items(source: &Source, outer: Token, items: &[RawItem]) -> Result<Ite
     Ok(all)
 }
 
-/// The loop that is meant. Linear in it.
-pub(super) fn resolve_loop(source: &Source, raw: &RawLoop) -> Result<Loop, NoMemory>
-    requires { AreNames (texts source.now.tokens.now) (loop_notes raw.now) }
-    ensures { IfOk result (λ found. found ≡ loop_of (texts source.now.tokens.now) source.now.names.now raw.now) }
-{
-    let nothing = Scope::Nothing;
-    let range = &raw.range;
-    Ok(Loop {
-        name: resolve_name(source, raw.name)?,
-        var: resolve_name(source, range.var)?,
-        low: resolve_ix(source, nothing, &range.low)?,
-        high: resolve_ix(source, nothing, &range.high)?,
-        items: resolve_items(source, range.var, raw.items.as_slice())?,
-    })
+impl Means for RawLoop {
+    type Tree = Loop;
+
+    ghost are_names = { λ texts scope raw. AreNames texts (loop_notes raw) };
+
+    ghost meaning = { λ texts names scope. loop_of texts names };
+
+    fn resolve(&self, source: &Source, _scope: Scope) -> Result<Loop, NoMemory> {
+        let nothing = Scope::Nothing;
+        let range = &self.range;
+        Ok(Loop {
+            name: resolve_name(source, self.name)?,
+            var: resolve_name(source, range.var)?,
+            low: resolve_ix(source, nothing, &range.low)?,
+            high: resolve_ix(source, nothing, &range.high)?,
+            items: resolve_items(source, range.var, self.items.as_slice())?,
+        })
+    }
 }

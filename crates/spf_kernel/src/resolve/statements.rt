@@ -1,6 +1,6 @@
 //! Assignments, conditions and guards.
 
-ghost use Rattle.std.specs.Prelude.{◌≡◌, IfOk, map};
+ghost use Rattle.std.specs.Prelude.{◌≡◌, IfOk, ⊤};
 ghost use Rattle.spf_lex.specs.Tokens.{texts};
 ghost use Rattle.spf_kernel.specs.Resolved.{becomes, assign_of, cond_of, guard_of, part_of};
 
@@ -9,9 +9,9 @@ use crate::note::Scope;
 use crate::raw::{RawAssign, RawCond, RawGuard, RawPart};
 use crate::resolve::terms::resolve_ix;
 use crate::resolve::values::resolve_value;
+use crate::resolve::{Means, resolve_all};
 use crate::tree::{Assign, Becomes, Cond, Guard, Part};
 use spf_base::NoMemory;
-use sqlite_items::Items;
 
 fn becomes(adds: bool) -> Becomes
     ensures { result ≡ becomes adds }
@@ -19,56 +19,37 @@ fn becomes(adds: bool) -> Becomes
     if adds { Becomes::Add } else { Becomes::Put }
 }
 
-/// The assignment that is meant. Linear in it.
-pub(super) fn resolve_assign(
-    source: &Source,
-    scope: Scope,
-    assign: &RawAssign,
-) -> Result<Assign, NoMemory>
-    ensures { IfOk result (λ found. found ≡ assign_of (texts source.now.tokens.now) source.now.names.now scope assign.now) }
-{
-    Ok(Assign {
-        array: source
-            .names
-            .data_array(text_of(source.tokens, assign.array)),
-        sub: resolve_ix(source, scope, &assign.at)?,
-        sign: becomes(assign.adds),
-        value: resolve_value(source, scope, &assign.value)?,
-    })
-}
+impl Means for RawAssign {
+    type Tree = Assign;
 
-fn resolve_assigns(
-    source: &Source,
-    scope: Scope,
-    assigns: &[RawAssign],
-) -> Result<Items<Assign>, NoMemory>
-    ensures { IfOk result (λ all. all ≡ map (assign_of (texts source.now.tokens.now) source.now.names.now scope) assigns.now) }
-{
-    let mut all = Items::new(source.alloc);
-    for assign in assigns {
-        all.push(resolve_assign(source, scope, assign)?)?;
+    ghost are_names = { λ texts scope assign. ⊤ };
+
+    ghost meaning = { assign_of };
+
+    fn resolve(&self, source: &Source, scope: Scope) -> Result<Assign, NoMemory> {
+        Ok(Assign {
+            array: source.names.data_array(text_of(source.tokens, self.array)),
+            sub: resolve_ix(source, scope, &self.at)?,
+            sign: becomes(self.adds),
+            value: resolve_value(source, scope, &self.value)?,
+        })
     }
-    Ok(all)
 }
 
-fn resolve_cond(source: &Source, scope: Scope, cond: &RawCond) -> Result<Cond, NoMemory>
-    ensures { IfOk result (λ found. found ≡ cond_of (texts source.now.tokens.now) source.now.names.now scope cond.now) }
-{
-    Ok(Cond {
-        left: resolve_ix(source, scope, &cond.left)?,
-        sign: cond.sign,
-        right: resolve_ix(source, scope, &cond.right)?,
-    })
-}
+impl Means for RawCond {
+    type Tree = Cond;
 
-fn resolve_conds(source: &Source, scope: Scope, conds: &[RawCond]) -> Result<Items<Cond>, NoMemory>
-    ensures { IfOk result (λ all. all ≡ map (cond_of (texts source.now.tokens.now) source.now.names.now scope) conds.now) }
-{
-    let mut all = Items::new(source.alloc);
-    for cond in conds {
-        all.push(resolve_cond(source, scope, cond)?)?;
+    ghost are_names = { λ texts scope cond. ⊤ };
+
+    ghost meaning = { cond_of };
+
+    fn resolve(&self, source: &Source, scope: Scope) -> Result<Cond, NoMemory> {
+        Ok(Cond {
+            left: resolve_ix(source, scope, &self.left)?,
+            sign: self.sign,
+            right: resolve_ix(source, scope, &self.right)?,
+        })
     }
-    Ok(all)
 }
 
 /// The guard that is meant. Linear in it.
@@ -80,37 +61,28 @@ pub(super) fn resolve_guard(
     ensures { IfOk result (λ found. found ≡ guard_of (texts source.now.tokens.now) source.now.names.now scope guard.now) }
 {
     Ok(Guard {
-        conds: resolve_conds(source, scope, guard.conds.as_slice())?,
-        body: resolve_assigns(source, scope, guard.body.as_slice())?,
+        conds: resolve_all(source, scope, guard.conds.as_slice())?,
+        body: resolve_all(source, scope, guard.body.as_slice())?,
     })
 }
 
-fn resolve_part(source: &Source, scope: Scope, part: &RawPart) -> Result<Part, NoMemory>
-    ensures { IfOk result (λ found. found ≡ part_of (texts source.now.tokens.now) source.now.names.now scope part.now) }
-{
-    match part {
-        RawPart::Assign(assign) => {
-            let assign = resolve_assign(source, scope, assign)?;
-            Ok(Part::Assign(assign))
-        }
-        RawPart::Guard(guard) => {
-            let guard = resolve_guard(source, scope, guard)?;
-            Ok(Part::Branch(guard))
-        }
-    }
-}
+impl Means for RawPart {
+    type Tree = Part;
 
-/// The body of a `for`. Linear in it.
-pub(super) fn resolve_parts(
-    source: &Source,
-    scope: Scope,
-    parts: &[RawPart],
-) -> Result<Items<Part>, NoMemory>
-    ensures { IfOk result (λ all. all ≡ map (part_of (texts source.now.tokens.now) source.now.names.now scope) parts.now) }
-{
-    let mut all = Items::new(source.alloc);
-    for part in parts {
-        all.push(resolve_part(source, scope, part)?)?;
+    ghost are_names = { λ texts scope part. ⊤ };
+
+    ghost meaning = { part_of };
+
+    fn resolve(&self, source: &Source, scope: Scope) -> Result<Part, NoMemory> {
+        match self {
+            RawPart::Assign(assign) => {
+                let assign = assign.resolve(source, scope)?;
+                Ok(Part::Assign(assign))
+            }
+            RawPart::Guard(guard) => {
+                let guard = resolve_guard(source, scope, guard)?;
+                Ok(Part::Branch(guard))
+            }
+        }
     }
-    Ok(all)
 }

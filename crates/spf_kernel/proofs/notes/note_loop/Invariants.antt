@@ -1,6 +1,0 @@
-use Rattle.spf_kernel.proofs.Common.{◌≡◌, ◌∷◌, ◌++◌, take, flat_map, Declared, Variable, note, bound_notes, item_notes, nothing}
-use Rattle.spf_kernel.specs.declared.note.Sort.TheVariants as sort_is
-use Rattle.spf_kernel.proofs.notes.note_loop.Given as goal
-
-abbrev pub invariant-loop-item : goal.invariant-loop-item
-invariant-loop-item l = l.notes ≡ l.fn.notes ++ note l.each.name (Declared sort_is.Loop) nothing ∷ note l.each.range.var Variable nothing ∷ bound_notes l.each.range.low ++ bound_notes l.each.range.high ++ flat_map (item_notes l.each.range.var) (take l.item-index l.item-items)

@@ -1,5 +1,0 @@
-use Rattle.spf_kernel.proofs.Common.{arith}
-use Rattle.spf_kernel.proofs.resolve.declarations.resolve_array.Goals as goal
-
-pub resolve_name-requires : goal.resolve_name-requires
-resolve_name-requires c = c.requires 0 c.args.array.now.name (omega arith)
