@@ -17,15 +17,6 @@ use Rattle.spf_kernel.proofs.WrittenStatements.{semicolon, in_word, range_word, 
 comma : IsFixedWord kind.Comma (codes ",")
 comma = symbol_fixed bundle_words kind.Comma (codes ",") refl refl
 
-index_line : (array low high trend : List (List ℕ))
-    → codes "index" ∷ array ++ codes "in" ∷ low ++ codes ".." ∷ high ++ trend ++ codes ";" ∷ []
-    ≡ codes "index" ∷ (array ++ (codes "in" ∷ (low ++ (codes ".." ∷ (high ++ (trend ++ codes ";" ∷ []))))))
-index_line array low high trend =
-    ap (λ (words : List (List ℕ)). codes "index" ∷ words)
-    (append_assoc (((array ++ codes "in" ∷ low) ++ codes ".." ∷ high)) trend (codes ";" ∷ [])
-    ∙ append_assoc (array ++ codes "in" ∷ low) (codes ".." ∷ high) (trend ++ codes ";" ∷ [])
-    ∙ append_assoc array (codes "in" ∷ low) (codes ".." ∷ (high ++ (trend ++ codes ";" ∷ []))))
-
 three_notes : (size low high : List Note) → size ++ low ++ high ≡ size ++ (low ++ (high ++ []))
 three_notes size low high = append_assoc size low high ∙ ap (λ (notes : List Note). size ++ (low ++ notes)) (sym (append-nil high))
 
@@ -113,9 +104,7 @@ module _ (s : Source) where
       (λ x. raw_decl.Index x.0 x.1.0 x.1.1.0 x.1.1.1)
       (record {
         fit = λ r fit. subst (AreFit s) (three_notes (head_notes r.0.size) (head_notes r.1.0) (head_notes r.1.1.0)) fit.1;
-        words = λ r fit.
-            index_line (sized_words (shown names) (text_of s.texts r.0.name) (head_of s.texts names r.0.size)) (term_words (shown names) [] (head_of s.texts names r.1.0))
-            (term_words (shown names) [] (head_of s.texts names r.1.1.0)) (trend_words r.1.1.1);
+        words = λ r fit. refl;
         means = λ r again same i. decl_is.Index (same i).0.0 (same i).0.1 (same i).1.0 (same i).1.1.0 (same i).1.1.1;
         same = λ r again same facts.
             let all = same_by s.texts s.written (three_notes (head_notes again.0.size) (head_notes again.1.0) (head_notes again.1.1.0)) (three_notes (head_notes r.0.size) (head_notes r.1.0) (head_notes r.1.1.0)) facts in
@@ -131,6 +120,3 @@ module _ (s : Source) where
   pub decl_written : AreWritten s syntax.decl decl_as
   unfolding syntax.decl
   decl_written = either_written syntax.params (syntax.index or syntax.values) decl_as params_written (either_written syntax.index syntax.values decl_as index_written values_written)
-
-  abbrev pub a_decl : Written s false RawDecl Decl
-  a_decl = record { form = syntax.decl; of = decl_as; again = decl_written }

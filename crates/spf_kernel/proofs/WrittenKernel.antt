@@ -4,26 +4,13 @@ use Rattle.spf_lex.specs.declared.kind.Kind.TheVariants as kind
 use Rattle.spf_lex.proofs.Leaves.{Leaves}
 use Rattle.spf_kernel.specs.Productions as syntax
 use Rattle.spf_kernel.specs.Notes.{loop_notes, kernel_notes}
+use Rattle.spf_kernel.specs.Printed.{words_with}
 use Rattle.spf_kernel.proofs.NamedLists.{params_found, tables_found, arrays_found}
 use Rattle.spf_kernel.proofs.Written.{IsLeaf, Source, shown, Meaning, AreFit, IsWritten, AreWritten, same_by}
-use Rattle.spf_kernel.proofs.WrittenDeclarations.{a_head, a_decl}
-use Rattle.spf_kernel.proofs.WrittenLoops.{a_loop}
+use Rattle.spf_kernel.proofs.WrittenDeclarations.{a_head, decl_as, decl_written}
+use Rattle.spf_kernel.proofs.WrittenLoops.{loop_as, loop_written}
 use Rattle.spf_kernel.proofs.WrittenParts.{◌&◌, led_by, ended_by, repeated, made_of}
 use Rattle.spf_kernel.proofs.WrittenStatements.{semicolon, open_brace, close_brace}
-
-kernel_line : (decls steps loops : List (List ℕ))
-    → codes "kernel" ∷ codes "{" ∷ decls ++ codes "steps" ∷ steps ++ codes ";" ∷ loops ++ codes "}" ∷ []
-    ≡ codes "kernel" ∷ codes "{" ∷ (decls ++ (codes "steps" ∷ (steps ++ (codes ";" ∷ (loops ++ codes "}" ∷ [])))))
-kernel_line decls steps loops =
-    ap (λ (words : List (List ℕ)). codes "kernel" ∷ codes "{" ∷ words)
-    (append_assoc (decls ++ codes "steps" ∷ steps) (codes ";" ∷ loops) (codes "}" ∷ [])
-    ∙ append_assoc decls (codes "steps" ∷ steps) (codes ";" ∷ (loops ++ codes "}" ∷ [])))
-
--- the words of a kernel, where names are printed so
-abbrev words_with : TreeNames → Tree → List (List ℕ)
-words_with names tree =
-    codes "kernel" ∷ codes "{" ∷ flat_map (decl_words names) tree.decls ++ codes "steps" ∷ term_words names [] tree.steps ++ codes ";"
-    ∷ flat_map (loop_words names) tree.loops ++ codes "}" ∷ []
 
 module _ (s : Source) where
   abbrev names : Names
@@ -44,13 +31,11 @@ module _ (s : Source) where
   kernel_written : AreWritten s syntax.kernel (kernel_as (words_with (shown names)))
   unfolding syntax.kernel
   kernel_written =
-      made_of (led_by (small_fixed bundle_words kind.Kernel (codes "kernel") refl refl) (led_by open_brace (repeated (a_decl s) & led_by (small_fixed bundle_words kind.Steps (codes "steps") refl refl) (a_head s & led_by semicolon (ended_by close_brace (repeated (a_loop s))))))) (kernel_as (words_with (shown names)))
+      made_of (led_by (small_fixed bundle_words kind.Kernel (codes "kernel") refl refl) (led_by open_brace (repeated (record { form = syntax.decl; of = decl_as s; again = decl_written s }) & led_by (small_fixed bundle_words kind.Steps (codes "steps") refl refl) (a_head s & led_by semicolon (ended_by close_brace (repeated (record { form = syntax.one_loop; of = loop_as s; again = loop_written s }))))))) (kernel_as (words_with (shown names)))
       raw_of
       (record {
         fit = λ r. subst (AreFit s) (all_notes (raw_of r));
-        words = λ r fit.
-            kernel_line (flat_map (decl_words (shown names)) (map (decl_of s.texts names) r.0)) (term_words (shown names) [] (head_of s.texts names r.1.0))
-            (flat_map (loop_words (shown names)) (map (loop_of s.texts names) r.1.1));
+        words = λ r fit. refl;
         means = λ r again same i. record { decls = (same i).0; steps = (same i).1.0; loops = (same i).1.1 };
         same = λ r again same facts. same_by s.texts s.written (all_notes (raw_of again)) (all_notes (raw_of r)) facts;
       })

@@ -13,9 +13,10 @@ use Rattle.spf_kernel.specs.declared.tree.Item.TheVariants as item_is
 use Rattle.spf_kernel.specs.declared.tree.Loop.{Loop}
 use Rattle.spf_kernel.specs.Productions as syntax
 use Rattle.spf_kernel.specs.Notes.{loop_notes}
+use Rattle.spf_kernel.specs.Printed.{block}
 use Rattle.spf_kernel.proofs.Written.{in_source, Source, Context, shown, Meaning, AreWritten}
 use Rattle.spf_kernel.proofs.WrittenParts.{Behind, Written, either_written, ◌&◌, then_by, led_by, enclosed_by, repeated, a_name, made_of}
-use Rattle.spf_kernel.proofs.WrittenStatements.{Range, braced, block_line, a_part, a_range}
+use Rattle.spf_kernel.proofs.WrittenStatements.{Range, braced, a_part, a_range}
 
 -- ---- loops
 
@@ -26,10 +27,6 @@ module _ (s : Source) where
 
   abbrev names : Names
   names = names_of s.facts
-
-  -- between braces, a list of which each part has these words
-  abbrev block_of : {A : Type 0} → (A → List (List ℕ)) → List A → List (List ℕ)
-  block_of words parts = codes "{" ∷ (flat_map words parts ++ codes "}" ∷ [])
 
   module _ (outer outer_again : Token) (same_outer : text_of s.written outer_again ≡ text_of s.texts outer) where
     abbrev outer_vars : List (List ℕ)
@@ -81,7 +78,7 @@ module _ (s : Source) where
       means_again = λ range. map (part_of s.written names (inside outer_again range.var));
       notes = λ range. flat_map (part_notes (inside outer range.var));
       notes_again = λ range. flat_map (part_notes (inside outer_again range.var));
-      words = λ range. block_of (part_words (shown names) (text_of s.texts outer ∷ range.0 ∷ []));
+      words = λ range. block (part_words (shown names) (text_of s.texts outer ∷ range.0 ∷ []));
     }
 
     inner_written : AreWritten s syntax.inner item_as
@@ -91,9 +88,7 @@ module _ (s : Source) where
         (λ x. raw_item.Inner x.0 x.1)
         (record {
           fit = λ r fit. fit.1;
-          words = λ r fit.
-              block_line (codes "for" ∷ range_words (shown names) outer_vars (text_of s.texts r.0.var) (term_of s.texts names (within outer) r.0.low) (term_of s.texts names (within outer) r.0.high))
-              (flat_map (part_words (shown names) (text_of s.texts outer ∷ text_of s.texts r.0.var ∷ [])) (map (part_of s.texts names (inside outer r.0.var)) r.1));
+          words = λ r fit. refl;
           means = λ r again same i. item_is.Inner (same i).0.0 (same i).0.1.0 (same i).0.1.1 (same i).1;
           same = λ r again same facts i. fact_with says_is.Variable (same i).0.0 (same_outer i ∷ []) ∷ facts i;
         })
@@ -101,9 +96,6 @@ module _ (s : Source) where
     item_written : AreWritten s syntax.item item_as
     unfolding syntax.item
     item_written = either_written (raw_item.Part <$> syntax.part) syntax.inner item_as item_part_written inner_written
-
-    abbrev an_item : Written s false RawItem Item
-    an_item = record { form = syntax.item; of = item_as; again = item_written }
 
   -- ---- outer loops
 
@@ -116,30 +108,19 @@ module _ (s : Source) where
     means_again = λ range. map (item_of s.written names range.var);
     notes = λ range. flat_map (item_notes range.var);
     notes_again = λ range. flat_map (item_notes range.var);
-    words = λ range. block_of (item_words (shown names) (range.0 ∷ []));
+    words = λ range. block (item_words (shown names) (range.0 ∷ []));
   }
-
-  loop_line : (range body : List (List ℕ)) → (range ++ codes ")" ∷ codes "{" ∷ body) ++ codes "}" ∷ [] ≡ (range ++ codes ")" ∷ []) ++ codes "{" ∷ (body ++ codes "}" ∷ [])
-  loop_line range body =
-      append_assoc range (codes ")" ∷ codes "{" ∷ body) (codes "}" ∷ []) ∙ sym (append_assoc range (codes ")" ∷ []) (codes "{" ∷ (body ++ codes "}" ∷ [])))
 
   pub loop_written : AreWritten s syntax.one_loop loop_as
   unfolding syntax.one_loop loop_notes
   loop_written =
       made_of
       (led_by (small_fixed bundle_words kind.Loop (codes "loop") refl refl) (a_name & then_by (enclosed_by (symbol_fixed bundle_words kind.OpenParenthesis (codes "(") refl refl) (symbol_fixed bundle_words kind.CloseParenthesis (codes ")") refl refl) (a_range outside spot_is.Bound refl)) (syntax.braced (many syntax.item)) outer_body
-      (λ r again same. (braced (repeated (an_item r.var again.var (λ i. (same i).0)))).again)))
+      (λ r again same. (braced (repeated (record { form = syntax.item; of = item_as r.var again.var (λ i. (same i).0); again = item_written r.var again.var (λ i. (same i).0) }))).again)))
       loop_as (λ x. record { name = x.0; range = x.1.0; items = x.1.1 })
       (record {
         fit = λ r fit. fit.1.1;
-        words = λ r fit.
-            let outer = r.1.0.var in
-            ap (λ (words : List (List ℕ)). codes "loop" ∷ text_of s.texts r.0 ∷ codes "(" ∷ words)
-            (loop_line (range_words (shown names) [] (text_of s.texts outer) (term_of s.texts names nothing r.1.0.low) (term_of s.texts names nothing r.1.0.high))
-            (flat_map (item_words (shown names) (text_of s.texts outer ∷ [])) (map (item_of s.texts names outer) r.1.1)));
+        words = λ r fit. refl;
         means = λ r again same i. record { name = (same i).0; var = (same i).1.0.0; low = (same i).1.0.1.0; high = (same i).1.0.1.1; items = (same i).1.1 };
         same = λ r again same facts i. fact_with (says_is.Declared sort_is.Loop) (same i).0 [] ∷ fact_with says_is.Variable (same i).1.0.0 [] ∷ facts i;
       })
-
-  abbrev pub a_loop : Written s false RawLoop Loop
-  a_loop = record { form = syntax.one_loop; of = loop_as; again = loop_written }

@@ -56,10 +56,6 @@ sized_by c spot no_data = (bracketed (an_ix c spot no_data 4)).again
 abbrev pub a_size : (c : Context) (spot : Spot) → takes_data spot ≡ false → Written (source c) false RawIx Term
 a_size c spot no_data = record { form = syntax.in_brackets; of = (bracketed (an_ix c spot no_data 4)).of; again = sized_by c spot no_data }
 
--- words in front of a block
-pub block_line : (head body : List (List ℕ)) → (head ++ codes "{" ∷ body) ++ codes "}" ∷ [] ≡ head ++ codes "{" ∷ (body ++ codes "}" ∷ [])
-block_line head body = append_assoc head (codes "{" ∷ body) (codes "}" ∷ [])
-
 -- a variable, by its name, and its bounds
 abbrev pub Range : Type 0
 Range = List ℕ × (Term × Term)
@@ -79,10 +75,6 @@ module _ (c : Context) where
   abbrev assign_as : Meaning RawAssign Assign
   assign_as = in_scope c assign_of assign_notes assign_words
 
-  assign_line : (array sign : List ℕ) (sub value : List (List ℕ))
-      → (array ∷ codes "[" ∷ sub ++ codes "]" ∷ []) ++ sign ∷ value ++ codes ";" ∷ [] ≡ array ∷ ((codes "[" ∷ (sub ++ codes "]" ∷ [])) ++ (sign ∷ (value ++ codes ";" ∷ [])))
-  assign_line array sign sub value = ap (λ (words : List (List ℕ)). array ∷ codes "[" ∷ words) (append_assoc (sub ++ codes "]" ∷ []) (sign ∷ value) (codes ";" ∷ []))
-
   abbrev a_value : Written s false RawValue Value
   a_value = record { form = syntax.value 8; of = value_as c; again = value_written c 8 }
 
@@ -94,11 +86,8 @@ module _ (c : Context) where
       (record {
         fit = λ r fit. fit.1;
         words = λ r fit.
-            let sub = term_words (shown_in c) (vars_in c) (term_of c.texts names c.scope r.1.0) in
-            let value = value_words (shown_in c) (vars_in c) (value_of c.texts names c.scope r.1.1.1) in
-            let sign = becomes_word (becomes r.1.1.0) in
-            ap (λ (array : List ℕ). (array ∷ codes "[" ∷ sub ++ codes "]" ∷ []) ++ sign ∷ value ++ codes ";" ∷ []) (number_declared is_data c.facts (text_of c.texts r.0) fit.0).named
-            ∙ assign_line (text_of c.texts r.0) sign sub value;
+            let after = (bracketed body_ix & a_sign syntax.becomes becomes (λ sign. becomes_word sign ∷ []) becomes_written & ended_by semicolon a_value).of in
+            ap (λ (array : List ℕ). array ∷ after.words (after.means r.1)) (number_declared is_data c.facts (text_of c.texts r.0) fit.0).named;
         means = λ r again same i. record { array = number_of names.data_arrays (same i).0; sub = (same i).1.0; sign = (same i).1.1.0; value = (same i).1.1.1 };
         same = λ r again same facts i. fact_with (says_is.Used true spot_is.Target) (same i).0 (c.scoped i) ∷ facts i;
       })
@@ -122,27 +111,19 @@ module _ (c : Context) where
         same = λ r again same facts i. fact_of c.texts (mark (ix_head r.0) says_is.Condition) ∷ facts i;
       })
 
-  abbrev a_cond : Written s false RawCond Cond
-  a_cond = record { form = syntax.cond; of = cond_as; again = cond_written }
-
   abbrev guard_as : Meaning RawGuard Guard
   guard_as = in_scope c guard_of guard_notes guard_words
 
   guard_written : AreWritten s syntax.guard guard_as
   unfolding syntax.guard
   guard_written =
-      made_of (led_by (small_fixed bundle_words kind.If (codes "if") refl refl) (parted_by (small_fixed bundle_words kind.And (codes "and") refl refl) a_cond & braced (repeated an_assign))) guard_as (λ x. record { conds = x.0; body = x.1 })
+      made_of (led_by (small_fixed bundle_words kind.If (codes "if") refl refl) (parted_by (small_fixed bundle_words kind.And (codes "and") refl refl) (record { form = syntax.cond; of = cond_as; again = cond_written }) & braced (repeated an_assign))) guard_as (λ x. record { conds = x.0; body = x.1 })
       (record {
         fit = λ r fit. fit.1;
-        words = λ r fit.
-            let conds = printed.separated (codes "and") (cond_words (shown_in c) (vars_in c)) (map (cond_of c.texts names c.scope) r.0) in
-            block_line (codes "if" ∷ conds) (flat_map (assign_words (shown_in c) (vars_in c)) (map (assign_of c.texts names c.scope) r.1));
+        words = λ r fit. refl;
         means = λ r again same i. record { conds = (same i).0; body = (same i).1 };
         same = λ r again same facts i. fact_of c.texts (mark (conds_head r.0) says_is.Guard) ∷ facts i;
       })
-
-  abbrev a_guard : Written s false RawGuard Guard
-  a_guard = record { form = syntax.guard; of = guard_as; again = guard_written }
 
   -- ---- the parts of a body
 
@@ -154,7 +135,7 @@ module _ (c : Context) where
   part_written =
       either_written (raw_part.Assign <$> syntax.assign) (raw_part.Guard <$> syntax.guard) part_as
       (made_of an_assign part_as raw_part.Assign (record { fit = λ r fit. fit; words = λ r fit. refl; means = λ r again same. ap part_is.Assign same; same = λ r again same facts. facts }))
-      (made_of a_guard part_as raw_part.Guard (record { fit = λ r fit. fit; words = λ r fit. refl; means = λ r again same. ap part_is.Branch same; same = λ r again same facts. facts }))
+      (made_of (record { form = syntax.guard; of = guard_as; again = guard_written }) part_as raw_part.Guard (record { fit = λ r fit. fit; words = λ r fit. refl; means = λ r again same. ap part_is.Branch same; same = λ r again same facts. facts }))
 
   abbrev pub a_part : Written s false RawPart Part
   a_part = record { form = syntax.part; of = part_as; again = part_written }

@@ -23,6 +23,10 @@ separated between print (x ∷ xs) = print x ++ flat_map (λ y. between ∷ prin
 abbrev pub separator : List ℕ → ℕ → List (List ℕ)
 separator between n = if n == 0 then [] else between ∷ []
 
+-- the parts of a list between braces
+abbrev pub block : {A : Type 0} → (A → List (List ℕ)) → List A → List (List ℕ)
+block print xs = codes "{" ∷ (flat_map print xs ++ codes "}" ∷ [])
+
 -- ---- signs and numbers
 
 -- the sign in front of a further part of a sum
@@ -153,13 +157,13 @@ module _ (names : TreeNames) (vars : List (List ℕ)) where
   -- ---- statements
 
   abbrev pub assign_words : Assign → List (List ℕ)
-  assign_words assign = entry_words names.arrays assign.array assign.sub ++ becomes_word assign.sign ∷ value_words assign.value ++ codes ";" ∷ []
+  assign_words assign = entry_words names.arrays assign.array assign.sub ++ (becomes_word assign.sign ∷ (value_words assign.value ++ codes ";" ∷ []))
 
   abbrev pub cond_words : Cond → List (List ℕ)
   cond_words cond = term_words cond.left ++ compare_word cond.sign ∷ term_words cond.right
 
   abbrev pub guard_words : Guard → List (List ℕ)
-  guard_words guard = codes "if" ∷ separated (codes "and") cond_words guard.conds ++ codes "{" ∷ flat_map assign_words guard.body ++ codes "}" ∷ []
+  guard_words guard = codes "if" ∷ separated (codes "and") cond_words guard.conds ++ block assign_words guard.body
 
   abbrev pub part_words : Part → List (List ℕ)
   part_words (part_is.Assign assign) = assign_words assign
@@ -174,12 +178,11 @@ module _ (names : TreeNames) where
   item_words vars (item_is.Assign assign) = assign_words names vars assign
   item_words vars (item_is.Branch guard) = guard_words names vars guard
   item_words vars (item_is.Inner var low high parts) =
-      codes "for" ∷ range_words names vars var low high ++ codes "{" ∷ flat_map (part_words names (vars ++ var ∷ [])) parts ++ codes "}" ∷ []
+      codes "for" ∷ range_words names vars var low high ++ block (part_words names (vars ++ var ∷ [])) parts
 
   abbrev pub loop_words : Loop → List (List ℕ)
   loop_words loop =
-      codes "loop" ∷ loop.name ∷ codes "(" ∷ range_words names [] loop.var loop.low loop.high ++ codes ")" ∷ codes "{"
-      ∷ flat_map (item_words (loop.var ∷ [])) loop.items ++ codes "}" ∷ []
+      codes "loop" ∷ loop.name ∷ codes "(" ∷ range_words names [] loop.var loop.low loop.high ++ codes ")" ∷ [] ++ block (item_words (loop.var ∷ [])) loop.items
 
   -- ---- declarations
 
@@ -193,13 +196,15 @@ module _ (names : TreeNames) where
   abbrev pub decl_words : Decl → List (List ℕ)
   decl_words (Params params) = codes "param" ∷ separated (codes ",") (λ name. name ∷ []) params ++ codes ";" ∷ []
   decl_words (Index name size low high trend) =
-      codes "index" ∷ sized_words name size ++ codes "in" ∷ term_words names [] low ++ codes ".." ∷ term_words names [] high ++ trend_words trend
-      ++ codes ";" ∷ []
+      codes "index" ∷ (sized_words name size ++ (codes "in" ∷ (term_words names [] low ++ (codes ".." ∷ (term_words names [] high ++ (trend_words trend ++ codes ";" ∷ []))))))
   decl_words (Values arrays) = codes "data" ∷ separated (codes ",") array_words arrays ++ codes ";" ∷ []
 
--- the words of a kernel
+-- the words of a kernel, where names are printed so
+abbrev pub words_with : TreeNames → Tree → List (List ℕ)
+words_with names tree =
+    codes "kernel" ∷ codes "{" ∷ (flat_map (decl_words names) tree.decls ++ (codes "steps" ∷ (term_words names [] tree.steps ++ (codes ";"
+    ∷ (flat_map (loop_words names) tree.loops ++ codes "}" ∷ [])))))
+
+-- with the names that it declares
 abbrev pub words_of : Tree → List (List ℕ)
-words_of tree =
-    let names = names_in tree.decls in
-    codes "kernel" ∷ codes "{" ∷ flat_map (decl_words names) tree.decls ++ codes "steps" ∷ term_words names [] tree.steps ++ codes ";"
-    ∷ flat_map (loop_words names) tree.loops ++ codes "}" ∷ []
+words_of tree = words_with (names_in tree.decls) tree

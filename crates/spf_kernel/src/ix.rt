@@ -3,7 +3,7 @@
 ghost use Rattle.std.specs.Prelude.{ℕ, ◌≡◌, ◌<◌, ◌-◌, ◌++◌};
 ghost use Rattle.spf_lex.specs.BundleWords.{same_kind};
 ghost use Rattle.spf_lex.specs.Derivation.{made};
-ghost use Rattle.spf_lex.specs.Production.{begins, behind, between, optional, token};
+ghost use Rattle.spf_lex.specs.Production.{begins, between, optional, token};
 ghost use Rattle.spf_lex.specs.Reader.{Reads, Takes, repeat};
 ghost use Rattle.spf_lex.specs.declared.kind.Kind.TheVariants as kind;
 ghost use Rattle.spf_kernel.specs.Productions as p;
@@ -50,27 +50,19 @@ fn sign(tokens: &mut Cursor<Kind>) -> Result<Option<Token>, Unexpected>
     Ok(Some(tokens.expect(Kind::Minus)?))
 }
 
-/// An atom behind `*`, where one stands.
+/// A number, and an atom behind `*`, where one stands.
 #[cycle(ix)]
-#[tactic(auto, unfolding(spf_lex::specs::LookAhead::first, spf_lex::specs::LookAhead::nullable))]
-fn times(alloc: Global, tokens: &mut Cursor<Kind>, depth: u32) -> Result<Option<RawAtom>, ReadFault>
-    ensures { Reads ((optional (behind kind.Star (p.atom depth))).read tokens.old) result tokens.new }
-{
-    if !tokens.sees_any(&[Kind::Star]) {
-        return Ok(None);
-    }
-    tokens.expect(Kind::Star)?;
-    Ok(Some(atom(alloc, tokens, depth)?))
-}
-
-#[cycle(ix)]
-#[tactic(auto, unfolding(crate::specs::Productions::numbered))]
+#[tactic(auto, unfolding(crate::specs::Productions::numbered, spf_lex::specs::LookAhead::first, spf_lex::specs::LookAhead::nullable))]
 fn numbered(alloc: Global, tokens: &mut Cursor<Kind>, depth: u32) -> Result<RawMono, ReadFault>
     ensures { Reads ((p.numbered (p.atom depth)).read tokens.old) result tokens.new }
 {
     let number = number(tokens)?;
-    let times = times(alloc, tokens, depth)?;
-    Ok(RawMono::Number(number, times))
+    if !tokens.sees_any(&[Kind::Star]) {
+        return Ok(RawMono::Number(number, None));
+    }
+    tokens.expect(Kind::Star)?;
+    let atom = atom(alloc, tokens, depth)?;
+    Ok(RawMono::Number(number, Some(atom)))
 }
 
 #[cycle(ix)]

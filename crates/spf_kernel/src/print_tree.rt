@@ -2,7 +2,7 @@
 
 ghost use Rattle.std.specs.Prelude.{◌≡◌, ◌++◌, ◌∷◌, [], codes, OnOk, IfOk};
 ghost use Rattle.spf_lex.specs.Joined.{joined};
-ghost use Rattle.spf_kernel.specs.Printed.{array_words, decl_words, sized_words, term_words, trend_words, words_of};
+ghost use Rattle.spf_kernel.specs.Printed.{array_words, decl_words, sized_words, term_words, trend_words, words_of, words_with};
 
 use crate::print_list::{Print, push_all, push_separated};
 use crate::print_term::push_term;
@@ -114,23 +114,16 @@ impl Print for Decl {
     }
 }
 
-fn push_tree(alloc: Global, words: &mut Words, tree: &Tree) -> Result<(), NoMemory>
-    ensures { OnOk result (words.new ≡ words.old ++ words_of tree.now) }
+fn push_tree(words: &mut Words, shown: &Shown, tree: &Tree) -> Result<(), NoMemory>
+    ensures { OnOk result (words.new ≡ words.old ++ words_with shown.now.names.now tree.now) }
 {
-    let names = names_of_tree(alloc, &tree.decls)?;
-    let none = Items::new(alloc);
-    let shown = Shown {
-        alloc,
-        names: &names,
-        vars: &none,
-    };
     words.push(b"kernel")?;
     words.push(b"{")?;
-    push_all(words, &shown, tree.decls.as_slice())?;
+    push_all(words, shown, tree.decls.as_slice())?;
     words.push(b"steps")?;
-    push_term(words, &shown, &tree.steps)?;
+    push_head(words, shown, &tree.steps)?;
     words.push(b";")?;
-    push_all(words, &shown, tree.loops.as_slice())?;
+    push_all(words, shown, tree.loops.as_slice())?;
     words.push(b"}")
 }
 
@@ -139,7 +132,14 @@ fn push_tree(alloc: Global, words: &mut Words, tree: &Tree) -> Result<(), NoMemo
 pub fn tree_text(alloc: Global, tree: &Tree) -> Result<Vec<u8>, NoMemory>
     ensures { IfOk result (λ text. text.items ≡ joined (words_of tree.now)) }
 {
+    let names = names_of_tree(alloc, &tree.decls)?;
+    let none = Items::new(alloc);
+    let shown = Shown {
+        alloc,
+        names: &names,
+        vars: &none,
+    };
     let mut words = Words::new(alloc);
-    push_tree(alloc, &mut words, tree)?;
+    push_tree(&mut words, &shown, tree)?;
     Ok(words.into_text())
 }

@@ -2,23 +2,15 @@
 
 ghost use Rattle.std.specs.Prelude.{◌≡◌};
 ghost use Rattle.spf_lex.specs.Production.{begins};
-ghost use Rattle.spf_lex.specs.Reader.{Reads, Takes};
+ghost use Rattle.spf_lex.specs.Reader.{Reads};
 ghost use Rattle.spf_kernel.specs.Productions as p;
 
 use crate::ix::{BRACKETS, in_brackets, ix};
 use crate::raw::{RawAssign, RawCond, RawGuard, RawItem, RawLoop, RawPart, RawRange};
 use crate::tree::Compare;
 use crate::value::{PARENTHESES, value};
-use spf_lex::{Cursor, Kind, Part, ReadFault, Unexpected, enclosed, keyword, separated};
+use spf_lex::{Cursor, Kind, Part, ReadFault, enclosed, keyword, separated};
 use std::alloc::Global;
-
-/// The sign of an assignment, and whether it is `+=`.
-#[tactic(auto, unfolding(crate::specs::Productions::becomes))]
-fn becomes(tokens: &mut Cursor<Kind>) -> Result<bool, Unexpected>
-    ensures { Takes (p.becomes.read tokens.old) result tokens.new }
-{
-    keyword(tokens, &[(Kind::Equals, false), (Kind::PlusEquals, true)])
-}
 
 impl Part<Kind> for RawAssign {
     ghost begins = { begins p.assign };
@@ -30,11 +22,11 @@ impl Part<Kind> for RawAssign {
         tokens.sees_any(&[Kind::Name])
     }
 
-    #[tactic(auto, unfolding(crate::specs::Productions::assign))]
+    #[tactic(auto, unfolding(crate::specs::Productions::assign, crate::specs::Productions::becomes))]
     fn parse(alloc: Global, tokens: &mut Cursor<Kind>) -> Result<RawAssign, ReadFault> {
         let array = tokens.expect(Kind::Name)?;
         let at = in_brackets(alloc, tokens)?;
-        let adds = becomes(tokens)?;
+        let adds = keyword(tokens, &[(Kind::Equals, false), (Kind::PlusEquals, true)])?;
         let value = value(alloc, tokens, PARENTHESES)?;
         tokens.expect(Kind::Semicolon)?;
         Ok(RawAssign {
@@ -44,21 +36,6 @@ impl Part<Kind> for RawAssign {
             value,
         })
     }
-}
-
-#[tactic(auto, unfolding(crate::specs::Productions::compare))]
-fn compare(tokens: &mut Cursor<Kind>) -> Result<Compare, Unexpected>
-    ensures { Takes (p.compare.read tokens.old) result tokens.new }
-{
-    let signs = [
-        (Kind::Equal, Compare::Equal),
-        (Kind::Unequal, Compare::Unequal),
-        (Kind::Less, Compare::Less),
-        (Kind::AtMost, Compare::AtMost),
-        (Kind::Greater, Compare::Greater),
-        (Kind::AtLeast, Compare::AtLeast),
-    ];
-    keyword(tokens, &signs)
 }
 
 impl Part<Kind> for RawCond {
@@ -71,10 +48,18 @@ impl Part<Kind> for RawCond {
         tokens.sees_any(&[Kind::Minus, Kind::One, Kind::Number, Kind::Name])
     }
 
-    #[tactic(auto, unfolding(crate::specs::Productions::cond))]
+    #[tactic(auto, unfolding(crate::specs::Productions::cond, crate::specs::Productions::compare))]
     fn parse(alloc: Global, tokens: &mut Cursor<Kind>) -> Result<RawCond, ReadFault> {
+        let signs = [
+            (Kind::Equal, Compare::Equal),
+            (Kind::Unequal, Compare::Unequal),
+            (Kind::Less, Compare::Less),
+            (Kind::AtMost, Compare::AtMost),
+            (Kind::Greater, Compare::Greater),
+            (Kind::AtLeast, Compare::AtLeast),
+        ];
         let left = ix(alloc, tokens, BRACKETS)?;
-        let sign = compare(tokens)?;
+        let sign = keyword(tokens, &signs)?;
         let right = ix(alloc, tokens, BRACKETS)?;
         Ok(RawCond { left, sign, right })
     }

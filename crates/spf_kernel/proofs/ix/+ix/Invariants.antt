@@ -5,9 +5,6 @@ use Rattle.spf_kernel.specs.Productions.{atom, next_step}
 abbrev pub decreases-atom : goal.decreases-atom
 decreases-atom l = 9 * l.depth
 
-abbrev pub decreases-times : goal.decreases-times
-decreases-times l = 9 * l.depth + 1
-
 abbrev pub decreases-numbered : goal.decreases-numbered
 decreases-numbered l = 9 * l.depth + 2
 
