@@ -1,11 +1,122 @@
 -- What the rules ask of the facts, with one fact more.
-use Rattle.spf_kernel.proofs.Common.{◌≡◌, ℕ, Bool, true, false, List, [], ◌∷◌, ◌++◌, map, filter, refl, ap, sym, ◌∙◌, append-nil, subst, length, ◌<◌, map_push, map-append, bytes_eq, insert_key, Before, Says, IsBelow, Fact, is_param, is_table, is_data, is_loop, names_that}
-use Rattle.std.proofs.Common.{cond}
-use Rattle.std.proofs.lemmas.List.Elements.{filter-append}
-use Rattle.std.proofs.lemmas.List.Sums.{fold_push}
-use Rattle.spf_kernel.specs.Before.{once, before_of}
-use Rattle.spf_kernel.specs.Counts.{counts_of}
-use Rattle.spf_kernel.proofs.Counting.{counts_below}
+use Rattle.spf_kernel.proofs.Common.{◌≡◌, ℕ, ◌+◌, ◌<◌, ◌≤◌, Bool, true, false, not, List, [], ◌∷◌, ◌++◌, length, take, refl, ap, sym, ◌∙◌, arith, common_steps, length-take, sum_by_push, sum_by-cons, Says, IsBelow, Fact, is_param, is_table, is_data, is_loop, is_site, count_that, map, filter, append-nil, subst, map_push, map-append, bytes_eq, insert_key, Before, names_that, cond, reverse, take_while, reverse-append, length-reverse, prefix_len, count_by-le-length, fold_push, counts_of, is_target, is_factor, is_guard, is_condition, since, filter-append, once, before_of}
+use Rattle.spf_kernel.specs.declared.counts.Counts.{Counts}
+
+-- one more, where the test holds
+abbrev pub more : Bool → ℕ → ℕ
+more counted n = cond counted (n + 1) n
+
+added : (b : Bool) (n : ℕ) → n + cond b 1 0 ≡ more b n
+added true n = refl
+added false n = omega arith
+
+added_first : (b : Bool) (n : ℕ) → cond b 1 0 + n ≡ more b n
+added_first true n = omega arith
+added_first false n = omega arith
+
+kept : {X : Type 0} (n : ℕ) (x : X) (xs : List X) → take (1 + n) (x ∷ xs) ≡ x ∷ take n xs
+kept n x xs = grind (arith, common_steps)
+
+kept_or_not : {X : Type 0} (b : Bool) (n : ℕ) (x : X) (xs : List X) → take (cond b (1 + n) 0) (x ∷ xs) ≡ cond b (x ∷ take n xs) []
+kept_or_not true n x xs = kept n x xs
+kept_or_not false n x xs = refl
+
+-- the longest front that passes, from the first element on
+take_while_first : (test : Fact → Bool) (fact : Fact) (facts : List Fact) → take_while test (fact ∷ facts) ≡ cond (test fact) (fact ∷ take_while test facts) []
+take_while_first test fact facts = kept_or_not (test fact) (prefix_len test facts) fact facts
+
+module _ (test : Says → Bool) where
+  pub count_more : (before : List Fact) (fact : Fact) → count_that test (before ++ fact ∷ []) ≡ more (test fact.says) (count_that test before)
+  count_more before fact = sum_by_push (λ (x : Fact). cond (test x.says) 1 0) before fact ∙ added (test fact.says) (count_that test before)
+
+  pub first_more : (fact : Fact) (others : List Fact) → count_that test (fact ∷ others) ≡ more (test fact.says) (count_that test others)
+  first_more fact others = sum_by-cons (λ (x : Fact). cond (test x.says) 1 0) fact others ∙ added_first (test fact.says) (count_that test others)
+
+  begun : (b : Bool) (fact : Fact) (others : List Fact) → count_that test (cond (not b) (fact ∷ others) []) ≡ cond b 0 (more (test fact.says) (count_that test others))
+  begun true fact others = refl
+  begun false fact others = first_more fact others
+
+  pub since_more : (stop : Says → Bool) (before : List Fact) (fact : Fact)
+      → count_that test (since stop (before ++ fact ∷ [])) ≡ cond (stop fact.says) 0 (more (test fact.says) (count_that test (since stop before)))
+  since_more stop before fact =
+      rw (reverse-append before (fact ∷ []), take_while_first (λ (x : Fact). not (stop x.says)) fact (reverse before))
+      (begun (stop fact.says) fact (since stop before))
+
+  pub since_within : (stop : Says → Bool) (before : List Fact) → count_that test (since stop before) ≤ length before
+  since_within stop before =
+      let few = count_by-le-length (λ (x : Fact). test x.says) (since stop before) in
+      let front = length-take (prefix_len (λ (x : Fact). not (stop x.says)) (reverse before)) (reverse before) in
+      let same = length-reverse before in
+      omega arith
+
+-- the counts after a fact that says this
+abbrev pub counted : Counts → Says → Counts
+counted counts says = record {
+  params = more (is_param says) counts.params;
+  tables = more (is_table says) counts.tables;
+  data_arrays = more (is_data says) counts.data_arrays;
+  loops = more (is_loop says) counts.loops;
+  targets = cond (is_loop says) 0 (more (is_target says) counts.targets);
+  factors = cond (is_target says) 0 (more (is_factor says) counts.factors);
+  conditions = cond (is_guard says) 0 (more (is_condition says) counts.conditions);
+  sites = more (is_site says) counts.sites;
+}
+
+pub counts_more : (before : List Fact) (fact : Fact) → counts_of (before ++ fact ∷ []) ≡ counted (counts_of before) fact.says
+unfolding counts_of
+counts_more before fact =
+    let params = count_more is_param before fact in
+    let tables = count_more is_table before fact in
+    let data_arrays = count_more is_data before fact in
+    let loops = count_more is_loop before fact in
+    let targets = since_more is_target is_loop before fact in
+    let factors = since_more is_factor is_target before fact in
+    let conditions = since_more is_condition is_guard before fact in
+    let sites = count_more is_site before fact in
+    cc
+
+-- what is the counts with a fact more, where it is told by what the fact says
+pub counts_after : (before : List Fact) (fact : Fact) (counts next : Counts) → counts ≡ counts_of before → next ≡ counted counts fact.says → next ≡ counts_of (before ++ fact ∷ [])
+counts_after before fact counts next e step = step ∙ (ap (λ (c : Counts). counted c fact.says) e ∙ sym (counts_more before fact))
+
+pub counts_below : (limit : ℕ) (before : List Fact) → length before < limit → IsBelow limit (counts_of before)
+unfolding counts_of
+counts_below limit before short =
+    let plain = λ (test : Says → Bool). count_by-le-length (λ (x : Fact). test x.says) before in
+    record {
+      params = omega (arith, plain is_param);
+      tables = omega (arith, plain is_table);
+      data_arrays = omega (arith, plain is_data);
+      loops = omega (arith, plain is_loop);
+      targets = omega (arith, since_within is_target is_loop before);
+      factors = omega (arith, since_within is_factor is_target before);
+      conditions = omega (arith, since_within is_condition is_guard before);
+      sites = omega (arith, plain is_site);
+    }
+
+-- what each count is
+pub record IsCounted (facts : List Fact) (counts : Counts) : Type 0 where
+  pub params : counts.params ≡ count_that is_param facts
+  pub tables : counts.tables ≡ count_that is_table facts
+  pub data_arrays : counts.data_arrays ≡ count_that is_data facts
+  pub loops : counts.loops ≡ count_that is_loop facts
+  pub targets : counts.targets ≡ count_that is_target (since is_loop facts)
+  pub factors : counts.factors ≡ count_that is_factor (since is_target facts)
+  pub conditions : counts.conditions ≡ count_that is_condition (since is_guard facts)
+  pub sites : counts.sites ≡ count_that is_site facts
+
+pub is_counted : (facts : List Fact) (counts : Counts) → counts ≡ counts_of facts → IsCounted facts counts
+unfolding counts_of
+is_counted facts counts e = record {
+  params = ap (λ (c : Counts). c.params) e;
+  tables = ap (λ (c : Counts). c.tables) e;
+  data_arrays = ap (λ (c : Counts). c.data_arrays) e;
+  loops = ap (λ (c : Counts). c.loops) e;
+  targets = ap (λ (c : Counts). c.targets) e;
+  factors = ap (λ (c : Counts). c.factors) e;
+  conditions = ap (λ (c : Counts). c.conditions) e;
+  sites = ap (λ (c : Counts). c.sites) e;
+}
 
 pub once_more : (names : List (List ℕ)) (name : List ℕ) → once (names ++ name ∷ []) ≡ insert_key bytes_eq (once names) name
 unfolding once

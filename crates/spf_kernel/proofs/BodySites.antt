@@ -1,22 +1,14 @@
 -- The sites of a body are names with brackets and bounds: at most as many as its notes tell names with brackets, and two for each `for`.
-use Rattle.spf_kernel.proofs.Common.{◌≡◌, ℕ, ◌+◌, ◌*◌, ◌≤◌, Bool, true, false, List, [], ◌∷◌, ◌++◌, length, map, flat_map, Option, None, Some, is_some, refl, append-nil, arith, length-append, sum_by-append, sum_by-cons, sum_by, if◌then◌else◌, Token, Scope, RawIx, RawIx', Row_of-RawStep, end_of-RawStep, more_of-RawStep, RawMono, Number', RawMono-Number-1-None', RawMono-Number-1-Some', RawAtom, RawAtom', RawAtom-at-None', RawAtom-at-Some', end_of-RawIx, more_of-RawIx, RawValue, RawValue', Row_of-RawFactor, end_of-RawFactor, more_of-RawFactor, Row_of-RawSummand, end_of-RawSummand, more_of-RawSummand, RawFactor, Paren', end_of-RawValue, more_of-RawValue, RawAssign, RawCond, RawGuard, RawPart, RawItem, RawLoop, Note, Used, text_of, variables_in, Names, note, mark, conds_head, ix_notes, steps_notes, mono_notes, atom_notes, number_notes, excess_notes, ix_monomials, body_notes, bound_notes, subscript_notes, value_notes, facts_notes, summands_notes, fact_notes, assign_notes, cond_notes, guard_notes, part_notes, item_notes, constant_of, variable_of, bare_atom, bare_factor, factor_at, is_data_array, data_array_of, table_of, product, term_of, more_monos, monos_of, atom_of, more_factors, more_prods, factor_of, assign_of, cond_of, guard_of, part_of, item_of, loop_of, is_site, within, inside}
-use Rattle.std.proofs.lemmas.List.Sums.{count_by-le-length}
-use Rattle.spf_base.specs.Wrap.{wrap}
-use Rattle.spf_term.specs.Value.{applications, atom_applications}
-use Rattle.spf_term.specs.declared.term.Atom.{Atom}
+use Rattle.spf_kernel.proofs.Common.{◌≡◌, ℕ, ◌+◌, ◌*◌, ◌≤◌, Bool, true, false, List, [], ◌∷◌, ◌++◌, length, map, flat_map, Option, None, Some, is_some, refl, append-nil, arith, length-append, sum_by-append, sum_by-cons, sum_by, if◌then◌else◌, Token, Scope, RawIx, RawIx', Row_of-RawStep, end_of-RawStep, more_of-RawStep, RawMono, Number', RawMono-Number-1-None', RawMono-Number-1-Some', RawAtom, RawAtom', RawAtom-at-None', RawAtom-at-Some', end_of-RawIx, more_of-RawIx, RawValue, RawValue', Row_of-RawFactor, end_of-RawFactor, more_of-RawFactor, Row_of-RawSummand, end_of-RawSummand, more_of-RawSummand, RawFactor, Paren', end_of-RawValue, more_of-RawValue, RawAssign, RawCond, RawGuard, RawPart, RawItem, RawLoop, Note, Used, text_of, variables_in, Names, note, mark, conds_head, ix_notes, steps_notes, mono_notes, atom_notes, number_notes, excess_notes, ix_monomials, body_notes, bound_notes, subscript_notes, value_notes, facts_notes, summands_notes, fact_notes, assign_notes, cond_notes, guard_notes, part_notes, item_notes, constant_of, variable_of, bare_atom, bare_factor, factor_at, is_data_array, data_array_of, table_of, product, term_of, more_monos, monos_of, atom_of, more_factors, more_prods, factor_of, assign_of, cond_of, guard_of, part_of, item_of, loop_of, is_site, within, inside, count_by-le-length, wrap, applications, atom_applications, Atom, out-RawAtom, Guard, Condition, ix_head, loop_notes, monomial, signed, value_of}
 use Rattle.spf_kernel.specs.Types.{roll-Mono}
 use Rattle.spf_kernel.specs.BodySites.{value_sites, fact_sites, prod_sites, assign_sites, cond_sites, guard_sites, part_sites, item_sites}
 use Rattle.spf_kernel.specs.declared.raw.RawMono as raw_mono
-use Rattle.spf_kernel.specs.declared.raw.RawAtom.{out-RawAtom}
 use Rattle.spf_kernel.specs.declared.raw.RawFactor.TheVariants as raw_factor
 use Rattle.spf_kernel.specs.declared.raw.RawPart.TheVariants as raw_part
 use Rattle.spf_kernel.specs.declared.raw.RawItem.TheVariants as raw_item
 use Rattle.spf_kernel.specs.declared.tree.Factor.TheVariants as factor
-use Rattle.spf_kernel.specs.declared.note.Says.TheVariants.{Guard, Condition}
 use Rattle.spf_kernel.specs.declared.note.Says.TheVariants as says
 use Rattle.spf_kernel.specs.declared.note.Spot.TheVariants as spot_is
-use Rattle.spf_kernel.specs.Notes.{ix_head, loop_notes}
-use Rattle.spf_kernel.specs.Resolved.{monomial, signed, value_of}
 use Rattle.spf_kernel.proofs.SiteSums.{mono_applications, rolled_term, rolled_value}
 use Rattle.spf_kernel.proofs.NoteCounts.{notes_that, both, behind, inside_last, counted, sums_within}
 

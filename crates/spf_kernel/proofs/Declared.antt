@@ -1,7 +1,5 @@
 -- Which names were declared, read off the sets of them.
-use Rattle.spf_kernel.proofs.Common.{◌≡◌, ℕ, Bool, true, false, List, [], ◌∷◌, ◌++◌, ◌||◌, fold, refl, ap, sym, ◌∙◌, list_any-append, bytes_eq-Decides, list_any, bytes_eq, insert_key, Before, Fact, is_param, is_table, is_data, is_loop, declares, names_that}
-use Rattle.std.proofs.Common.{cond}
-use Rattle.spf_kernel.specs.Before.{once, before_of}
+use Rattle.spf_kernel.proofs.Common.{◌≡◌, ℕ, Bool, true, false, List, [], ◌∷◌, ◌++◌, ◌||◌, fold, refl, ap, sym, ◌∙◌, list_any-append, bytes_eq-Decides, list_any, bytes_eq, insert_key, Before, Fact, is_param, is_table, is_data, is_loop, declares, names_that, cond, once, before_of}
 
 pub or_false : (b : Bool) → b ≡ b || false
 or_false true = refl

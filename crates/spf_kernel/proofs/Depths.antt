@@ -1,7 +1,6 @@
 -- Atoms and factors where brackets and parentheses may still stand.
-use Rattle.spf_kernel.proofs.Common.{◌≡◌, ℕ, zero, suc, ◌-◌, ◌<◌, true, false, List, refl, ap, arith, made, Lexed, begins, Kind}
+use Rattle.spf_kernel.proofs.Common.{◌≡◌, ℕ, zero, suc, ◌-◌, ◌<◌, true, false, List, refl, ap, arith, made, Lexed, begins, Kind, atom, fact, ix, nested, number, subscripted, value}
 use Rattle.spf_kernel.specs.declared.raw.RawFactor.TheVariants as factor_is
-use Rattle.spf_kernel.specs.Productions.{atom, fact, ix, nested, number, subscripted, value}
 
 pub atom_deep : (depth : ℕ) (tokens : List (Lexed Kind)) → 0 < depth → (atom depth).read tokens ≡ (subscripted (ix (depth - 1))).read tokens
 unfolding atom ix

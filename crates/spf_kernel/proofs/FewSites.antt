@@ -1,15 +1,11 @@
 -- Each data site of a tree is a name with brackets in its raw tree, and of these there are at most 256 where no rule is broken.
-use Rattle.spf_kernel.proofs.Common.{ℕ, ◌≤◌, true, List, ◌∷◌, ◌++◌, flat_map, refl, ap, arith, RawAssign, RawGuard, RawPart, RawItem, RawLoop, RawKernel, Value, Value', Row_of-Prod, end_of-Prod, more_of-Prod, Row_of-Factor, end_of-Factor, more_of-Factor, Factor, Scope, Used, Variable, Declared, Tree, texts, facts_of, Names, names_of, Token, note, conds_head, body_notes, bound_notes, value_notes, assign_notes, cond_notes, guard_notes, part_notes, item_notes, decl_notes, head_notes, mark, IsParsed, assign_of, guard_of, part_of, item_of, loop_of, tree_of, is_site, within, inside, nothing, fact_sites, value_sites, assign_sites, part_sites, item_sites, loop_sites}
+use Rattle.spf_kernel.proofs.Common.{ℕ, ◌≤◌, true, List, ◌∷◌, ◌++◌, flat_map, refl, ap, arith, RawAssign, RawGuard, RawPart, RawItem, RawLoop, RawKernel, Value, Value', Row_of-Prod, end_of-Prod, more_of-Prod, Row_of-Factor, end_of-Factor, more_of-Factor, Factor, Scope, Used, Variable, Declared, Tree, texts, facts_of, Names, names_of, Token, note, conds_head, body_notes, bound_notes, value_notes, assign_notes, cond_notes, guard_notes, part_notes, item_notes, decl_notes, head_notes, mark, IsParsed, assign_of, guard_of, part_of, item_of, loop_of, tree_of, is_site, within, inside, nothing, fact_sites, value_sites, assign_sites, part_sites, item_sites, loop_sites, Guard, loop_notes, kernel_notes, value_of, prods_sites, facts_sites, guard_sites, data_sites}
 use Rattle.spf_kernel.specs.BodySites as body
 use Rattle.spf_kernel.specs.declared.raw.RawPart.TheVariants as raw_part
 use Rattle.spf_kernel.specs.declared.raw.RawItem.TheVariants as raw_item
 use Rattle.spf_kernel.specs.declared.tree.Factor.TheVariants as factor
-use Rattle.spf_kernel.specs.declared.note.Says.TheVariants.{Guard}
 use Rattle.spf_kernel.specs.declared.note.Sort.TheVariants as sort_is
 use Rattle.spf_kernel.specs.declared.note.Spot.TheVariants as spot_is
-use Rattle.spf_kernel.specs.Notes.{loop_notes, kernel_notes}
-use Rattle.spf_kernel.specs.Resolved.{value_of}
-use Rattle.spf_kernel.specs.Sites.{prods_sites, facts_sites, guard_sites, data_sites}
 use Rattle.spf_kernel.proofs.BodySites.{sites, value_within}
 use Rattle.spf_kernel.proofs.NoteCounts.{both, inside_last, counted, same_facts, sums_within}
 use Rattle.spf_kernel.proofs.Unbroken.{few_sites, sound}

@@ -1,7 +1,5 @@
 -- The pieces of a number are as few numbers within the limit as can be whose sum it is.
-use Rattle.spf_kernel.proofs.Common.{◌≡◌, ℕ, suc, ◌≤◌, ◌<◌, ◌-◌, ◌*◌, ◌/◌, ◌%◌, ◌==◌, nat_lt, min, Bool, true, false, List, [], ◌∷◌, ◌++◌, length, replicate, All, refl, sym, ◌∙◌, arith, if◌then◌else◌, AllByRecursion, nat_tests, All-from_recursion, limit, pieces}
-use Rattle.std.specs.List.{sum}
-use Rattle.std.proofs.lemmas.List.Elements.{recursion_from_All}
+use Rattle.spf_kernel.proofs.Common.{◌≡◌, ℕ, suc, ◌≤◌, ◌<◌, ◌-◌, ◌*◌, ◌/◌, ◌%◌, ◌==◌, nat_lt, min, Bool, true, false, List, [], ◌∷◌, ◌++◌, length, replicate, All, refl, sym, ◌∙◌, arith, if◌then◌else◌, AllByRecursion, nat_tests, All-from_recursion, limit, pieces, sum, recursion_from_All}
 use Rattle.spf_kernel.proofs.PrintedConstants.{IsPiece, first_sum, pieces_small, pieces_few}
 
 pub pieces_within : (n : ℕ) → All (λ piece. piece ≤ limit) (pieces n)

@@ -1,8 +1,5 @@
 -- The first breach of the notes, with one note more.
-use Rattle.spf_kernel.proofs.Common.{◌≡◌, ℕ, ◌+◌, ◌<◌, ◌≤◌, Bool, true, false, List, [], ◌∷◌, ◌++◌, length, slice_get, Option, None, Some, refl, ap, sym, ◌∙◌, subst, nat_lt, zero, suc, if◌then◌else◌, ◌⊎◌, inl, inr, ⊎_elim, append_assoc, length-append, arith, ltb-false, Note, Breach, IsFirst, Fact, fact_of, facts_of, IsUnbroken}
-use Rattle.std.proofs.lemmas.Bool.{ltb-true}
-use Rattle.std.specs.Option.{option_or}
-use Rattle.spf_kernel.specs.Checked.{first_broken, least_rule, Precedes}
+use Rattle.spf_kernel.proofs.Common.{◌≡◌, ℕ, ◌+◌, ◌<◌, ◌≤◌, Bool, true, false, List, [], ◌∷◌, ◌++◌, length, slice_get, Option, None, Some, refl, ap, sym, ◌∙◌, subst, nat_lt, zero, suc, if◌then◌else◌, ◌⊎◌, inl, inr, ⊎_elim, append_assoc, length-append, arith, ltb-false, Note, Breach, IsFirst, Fact, fact_of, facts_of, IsUnbroken, ltb-true, option_or, first_broken, least_rule, Precedes}
 use Rattle.spf_kernel.specs.Rules.{rules, name_rules, limit_rules, has_capital, is_taken, is_unknown, is_misused, Breaks, IsFirstBreach}
 
 -- a split of a list with one element more is at that element, or a split of the list

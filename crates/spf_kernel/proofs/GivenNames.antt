@@ -1,10 +1,8 @@
 -- The notes of a kernel that give a name: those of its declarations, and those of its loops and their variables.
-use Rattle.spf_kernel.proofs.Common.{◌≡◌, List, [], ◌∷◌, ◌++◌, map, flat_map, refl, ap, ◌∙◌, append-nil, Token, RawIx, RawSized, RawItem, RawLoop, RawDecl, RawKernel, Note, Declared, Variable, note, param_note, bound_notes, head_notes, item_notes, cells_notes, decl_notes, nothing, within, inside}
+use Rattle.spf_kernel.proofs.Common.{◌≡◌, List, [], ◌∷◌, ◌++◌, map, flat_map, refl, ap, ◌∙◌, append-nil, Token, RawIx, RawSized, RawItem, RawLoop, RawDecl, RawKernel, Note, Declared, Variable, note, param_note, bound_notes, head_notes, item_notes, cells_notes, decl_notes, nothing, within, inside, Params, Index, Values, loop_notes, kernel_notes}
 use Rattle.spf_kernel.specs.declared.raw.RawItem.TheVariants.{Part, Inner}
-use Rattle.spf_kernel.specs.declared.raw.RawDecl.TheVariants.{Params, Index, Values}
 use Rattle.spf_kernel.specs.declared.note.Sort.TheVariants as sort_is
 use Rattle.spf_kernel.specs.declared.note.Spot.TheVariants as spot_is
-use Rattle.spf_kernel.specs.Notes.{loop_notes, kernel_notes}
 use Rattle.spf_kernel.proofs.NothingNamed.{giving, giving_append, AreNameless, ◌&◌, each_nameless, expression_each, part_each}
 
 -- ---- which they are

@@ -1,16 +1,11 @@
 -- What a kernel means keeps a property, where its index expressions, its names as factors and its targets do.
-use Rattle.spf_kernel.proofs.Common.{◌≡◌, ℕ, true, false, List, [], ◌∷◌, ◌++◌, length, map, flat_map, All, Option, is_some, refl, subst, AllByRecursion, All-from_recursion, split_each, Token, Spot, Note, Scope, RawIx, RawAssign, RawCond, RawGuard, RawPart, RawItem, RawLoop, RawDecl, RawKernel, RawValue, RawValue', Row_of-RawFactor, end_of-RawFactor, more_of-RawFactor, Row_of-RawSummand, end_of-RawSummand, more_of-RawSummand, RawFactor, Paren', end_of-RawValue, more_of-RawValue, Value, Value', roll-Value, out-roll-Value, Row_of-Prod, end_of-Prod, more_of-Prod, items-the_row-Prod, items_shown-the_row-Prod-1, Row_of-Factor, end_of-Factor, more_of-Factor, items-the_row-Factor, items_shown-the_row-Factor-0, Prod, DataDecl, Fact, text_of, variables_in, Names, names_of, number_of, value_notes, facts_notes, summands_notes, fact_notes, subscript_notes, expression_notes, body_notes, bound_notes, head_notes, assign_notes, cond_notes, guard_notes, part_notes, item_notes, cells_notes, decl_notes, factor_at, more_factors, more_prods, factor_of, term_of, assign_of, cond_of, guard_of, part_of, item_of, loop_of, head_of, data_decl_of, decl_of, takes_data, fits, is_data, declares, nothing, within, inside}
+use Rattle.spf_kernel.proofs.Common.{◌≡◌, ℕ, true, false, List, [], ◌∷◌, ◌++◌, length, map, flat_map, All, Option, is_some, refl, subst, AllByRecursion, All-from_recursion, split_each, Token, Spot, Note, Scope, RawIx, RawAssign, RawCond, RawGuard, RawPart, RawItem, RawLoop, RawDecl, RawKernel, RawValue, RawValue', Row_of-RawFactor, end_of-RawFactor, more_of-RawFactor, Row_of-RawSummand, end_of-RawSummand, more_of-RawSummand, RawFactor, Paren', end_of-RawValue, more_of-RawValue, Value, Value', roll-Value, out-roll-Value, Row_of-Prod, end_of-Prod, more_of-Prod, items-the_row-Prod, items_shown-the_row-Prod-1, Row_of-Factor, end_of-Factor, more_of-Factor, items-the_row-Factor, items_shown-the_row-Factor-0, Prod, DataDecl, Fact, text_of, variables_in, Names, names_of, number_of, value_notes, facts_notes, summands_notes, fact_notes, subscript_notes, expression_notes, body_notes, bound_notes, head_notes, assign_notes, cond_notes, guard_notes, part_notes, item_notes, cells_notes, decl_notes, factor_at, more_factors, more_prods, factor_of, term_of, assign_of, cond_of, guard_of, part_of, item_of, loop_of, head_of, data_decl_of, decl_of, takes_data, fits, is_data, declares, nothing, within, inside, out-RawAtom, out-Value, Property, KeepsValue, KeepProds, KeepFactors, KeepsFactor, KeepsAssign, KeepsCond, KeepsGuard, KeepsPart, KeepsItem, KeepsLoop, KeepsDecl, loop_notes, kernel_notes, value_of}
 use Rattle.spf_kernel.specs.declared.note.Spot.TheVariants as spot_is
-use Rattle.spf_kernel.specs.declared.raw.RawAtom.{out-RawAtom}
 use Rattle.spf_kernel.specs.declared.raw.RawFactor.TheVariants as raw_factor
 use Rattle.spf_kernel.specs.declared.raw.RawPart.TheVariants as raw_part
 use Rattle.spf_kernel.specs.declared.raw.RawItem.TheVariants as raw_item
 use Rattle.spf_kernel.specs.declared.raw.RawDecl.TheVariants as raw_decl
-use Rattle.spf_kernel.specs.declared.tree.Value.{out-Value}
 use Rattle.spf_kernel.specs.declared.tree.Factor.TheVariants as factor
-use Rattle.spf_kernel.specs.Kept.{Property, KeepsValue, KeepProds, KeepFactors, KeepsFactor, KeepsAssign, KeepsCond, KeepsGuard, KeepsPart, KeepsItem, KeepsLoop, KeepsDecl}
-use Rattle.spf_kernel.specs.Notes.{loop_notes, kernel_notes}
-use Rattle.spf_kernel.specs.Resolved.{value_of}
 use Rattle.spf_kernel.proofs.NamedUses.{IsFitting, AreFitting}
 
 -- ---- values made of lists

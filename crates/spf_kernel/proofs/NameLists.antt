@@ -1,7 +1,5 @@
 -- Lists of names, seen by the bytes of each.
-use Rattle.spf_kernel.proofs.Common.{◌≡◌, ◌+◌, Bool, List, [], ◌∷◌, map, ◌||◌, not, refl, ap, position, length, arith, common_steps, map_push, list_any, position_or_len, unwrap_or, insert_key}
-use Rattle.std.proofs.Common.{cond}
-use Rattle.std.proofs.lemmas.List.Sums.{prefix_len-le-length}
+use Rattle.spf_kernel.proofs.Common.{◌≡◌, ◌+◌, Bool, List, [], ◌∷◌, map, ◌||◌, not, refl, ap, position, length, arith, common_steps, map_push, list_any, position_or_len, unwrap_or, insert_key, cond, prefix_len-le-length}
 
 module _ {X Y : Type 0} (bytes : X → Y) where
   pub list_any-map : (test : Y → Bool) (xs : List X) → list_any test (map bytes xs) ≡ list_any (λ x. test (bytes x)) xs

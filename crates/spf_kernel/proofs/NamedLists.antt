@@ -1,11 +1,7 @@
 -- The names that the declarations of a tree give are those that its notes declare.
-use Rattle.spf_kernel.proofs.Common.{◌≡◌, ℕ, Bool, true, false, List, [], ◌∷◌, ◌++◌, map, filter, flat_map, refl, ap, sym, ◌∙◌, append-nil, true≢false, ⊎_elim, if◌then◌else◌, map-append, Token, RawSized, RawItem, RawLoop, RawDecl, RawKernel, Note, Says, Declared, Variable, Decl, DataDecl, Fact, fact_of, facts_of, text_of, Names, note, decl_of, data_decl_of, is_param, is_table, is_data, is_naming, names_that, nothing, within, arrays_of}
+use Rattle.spf_kernel.proofs.Common.{◌≡◌, ℕ, Bool, true, false, List, [], ◌∷◌, ◌++◌, map, filter, flat_map, refl, ap, sym, ◌∙◌, append-nil, true≢false, ⊎_elim, if◌then◌else◌, map-append, Token, RawSized, RawItem, RawLoop, RawDecl, RawKernel, Note, Says, Declared, Variable, Decl, DataDecl, Fact, fact_of, facts_of, text_of, Names, note, decl_of, data_decl_of, is_param, is_table, is_data, is_naming, names_that, nothing, within, arrays_of, Params, Index, Values, Sort, kernel_notes, params_of, tables_of}
 use Rattle.spf_kernel.specs.declared.raw.RawItem.TheVariants.{Part, Inner}
-use Rattle.spf_kernel.specs.declared.raw.RawDecl.TheVariants.{Params, Index, Values}
-use Rattle.spf_kernel.specs.declared.note.Sort.{Sort}
 use Rattle.spf_kernel.specs.declared.note.Sort.TheVariants as sort_is
-use Rattle.spf_kernel.specs.Notes.{kernel_notes}
-use Rattle.spf_kernel.specs.TreeNames.{params_of, tables_of}
 use Rattle.spf_kernel.proofs.Adding.{names_append}
 use Rattle.spf_kernel.proofs.GivenNames.{decl_given, item_given, loop_given, kernel_giving}
 use Rattle.spf_kernel.proofs.NothingNamed.{giving}

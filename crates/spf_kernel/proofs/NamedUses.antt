@@ -1,7 +1,6 @@
 -- Where no rule is broken, each used name fits the place that it stands at, by all that is declared.
 use Rattle.spf_kernel.proofs.Common.{◌≡◌, ℕ, Bool, true, false, not, ◌||◌, ◌&&◌, List, [], ◌∷◌, ◌++◌, refl, ap, ◌∙◌, subst, true≢false, append_assoc, arith, ⊤, list_any-append, list_any, AllByRecursion, bytes_eq, Note, Says, Used, Large, Excess, Spot, Fact, fact_of, facts_of, IsUnbroken, is_data, is_in_scope, is_param, is_table, names_that, takes_data, takes_table, is_known, declares, fits}
-use Rattle.spf_kernel.proofs.Adding.{names_append}
-use Rattle.spf_kernel.proofs.Counting.{more}
+use Rattle.spf_kernel.proofs.Adding.{names_append, more}
 use Rattle.spf_kernel.proofs.Unbroken.{AreSound, Keeps, sound}
 
 -- neither unknown nor misused

@@ -1,16 +1,9 @@
 -- The names that a kernel declares are words.
-use Rattle.spf_kernel.proofs.Common.{◌≡◌, ℕ, List, [], ◌∷◌, ◌++◌, drop, get_or, map, flat_map, All, refl, inl, inr, AllByRecursion, IsName, bundle_words, same_kind, Lexed, many, token, IsTokenText, Token, Kind, join_each, standing_leaves, RawItem, RawLoop, RawRange, RawSized, RawDecl, RawKernel, Note, Declared, note, text_of, IsKernel, is_naming, tokens_that, nothing}
-use Rattle.std.proofs.lemmas.List.Elements.{All-cons, All-nil}
-use Rattle.spf_lex.specs.Language.{lexed, tokens_of}
-use Rattle.spf_lex.specs.Production.{separated}
+use Rattle.spf_kernel.proofs.Common.{◌≡◌, ℕ, List, [], ◌∷◌, ◌++◌, drop, get_or, map, flat_map, All, refl, inl, inr, AllByRecursion, IsName, bundle_words, same_kind, Lexed, many, token, IsTokenText, Token, Kind, join_each, standing_leaves, RawItem, RawLoop, RawRange, RawSized, RawDecl, RawKernel, Note, Declared, note, text_of, IsKernel, is_naming, tokens_that, nothing, All-cons, All-nil, lexed, tokens_of, separated, Leaves, Sort, kernel_notes, decl, index, inner, item, kernel, one_loop, params, range, sized, values}
 use Rattle.spf_lex.specs.declared.kind.Kind.TheVariants as kind
-use Rattle.spf_lex.proofs.Leaves.{Leaves}
 use Rattle.spf_lex.proofs.Makes.{Makes, many_makes, separated_makes}
 use Rattle.spf_lex.proofs.NamedTokens.{name_text}
-use Rattle.spf_kernel.specs.declared.note.Sort.{Sort}
 use Rattle.spf_kernel.specs.declared.note.Sort.TheVariants as sort_is
-use Rattle.spf_kernel.specs.Notes.{kernel_notes}
-use Rattle.spf_kernel.specs.Productions.{decl, index, inner, item, kernel, one_loop, params, range, sized, values}
 use Rattle.spf_kernel.proofs.Clear.{kinds_exact}
 use Rattle.spf_kernel.proofs.GivenNames.{decl_given, item_given, loop_given, kernel_given, kernel_giving}
 

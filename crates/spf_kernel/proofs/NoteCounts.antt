@@ -1,6 +1,5 @@
 -- How many notes pass a test, and what is counted part by part is no more.
-use Rattle.spf_kernel.proofs.Common.{◌≡◌, ℕ, ◌+◌, ◌≤◌, Bool, true, List, [], ◌∷◌, ◌++◌, map, flat_map, refl, ap, sym, ◌∙◌, arith, sum_by-append, sum_by-cons, sum_by, Note, Says, Fact, fact_of, facts_of, count_that}
-use Rattle.std.proofs.Common.{count_by, cond}
+use Rattle.spf_kernel.proofs.Common.{◌≡◌, ℕ, ◌+◌, ◌≤◌, Bool, true, List, [], ◌∷◌, ◌++◌, map, flat_map, refl, ap, sym, ◌∙◌, arith, sum_by-append, sum_by-cons, sum_by, Note, Says, Fact, fact_of, facts_of, count_that, count_by, cond}
 
 module _ (test : Says → Bool) where
   abbrev pub notes_that : List Note → ℕ

@@ -1,12 +1,6 @@
 -- The notes of index expressions and values, told of their parts as lists.
-use Rattle.spf_kernel.proofs.Common.{◌≡◌, ℕ, zero, suc, ◌-◌, ◌≤◌, nat_lt, Bool, true, false, List, [], ◌∷◌, ◌++◌, length, map, flat_map, drop, Option, None, Some, refl, ap, ◌∙◌, append-nil, append_assoc, sym, is_some, arith, if◌then◌else◌, ltb-false, le-ltb, map-append, Token, Note, Spot, Scope, Used, Large, Excess, RawIx, RawIx', Row_of-RawStep, end_of-RawStep, more_of-RawStep, items-the_row-RawStep, items_shown-the_row-RawStep-1, RawStep, RawAtom, RawAtom', end_of-RawIx, more_of-RawIx, RawAtom-at-None', RawAtom-at-Some', RawValue, RawValue', Row_of-RawFactor, end_of-RawFactor, more_of-RawFactor, items-the_row-RawFactor, items_shown-the_row-RawFactor-1, Row_of-RawSummand, end_of-RawSummand, more_of-RawSummand, items-the_row-RawSummand, items_shown-the_row-RawSummand-2, RawSummand, Fact, note, ix_notes, steps_notes, mono_notes, atom_notes, value_notes, facts_notes, summands_notes, fact_notes, atom_monomials, excess_notes, ix_monomials, mark, mono_monomials, number_limit, number_notes}
-use Rattle.std.proofs.Common.{drop_of_length-le}
-use Rattle.std.proofs.lemmas.List.{length-drop}
-use Rattle.spf_kernel.specs.declared.raw.RawIx.{out-RawIx}
-use Rattle.spf_kernel.specs.declared.raw.RawAtom.{out-RawAtom}
-use Rattle.spf_kernel.specs.declared.raw.RawValue.{out-RawValue}
+use Rattle.spf_kernel.proofs.Common.{◌≡◌, ℕ, zero, suc, ◌-◌, ◌≤◌, nat_lt, Bool, true, false, List, [], ◌∷◌, ◌++◌, length, map, flat_map, drop, Option, None, Some, refl, ap, ◌∙◌, append-nil, append_assoc, sym, is_some, arith, if◌then◌else◌, ltb-false, le-ltb, map-append, Token, Note, Spot, Scope, Used, Large, Excess, RawIx, RawIx', Row_of-RawStep, end_of-RawStep, more_of-RawStep, items-the_row-RawStep, items_shown-the_row-RawStep-1, RawStep, RawAtom, RawAtom', end_of-RawIx, more_of-RawIx, RawAtom-at-None', RawAtom-at-Some', RawValue, RawValue', Row_of-RawFactor, end_of-RawFactor, more_of-RawFactor, items-the_row-RawFactor, items_shown-the_row-RawFactor-1, Row_of-RawSummand, end_of-RawSummand, more_of-RawSummand, items-the_row-RawSummand, items_shown-the_row-RawSummand-2, RawSummand, Fact, note, ix_notes, steps_notes, mono_notes, atom_notes, value_notes, facts_notes, summands_notes, fact_notes, atom_monomials, excess_notes, ix_monomials, mark, mono_monomials, number_limit, number_notes, drop_of_length-le, length-drop, out-RawIx, out-RawAtom, out-RawValue, steps_monomials}
 use Rattle.spf_kernel.specs.declared.raw.RawFactor.TheVariants.{Paren}
-use Rattle.spf_kernel.specs.Notes.{steps_monomials}
 use Rattle.spf_kernel.proofs.NamedUses.{AreFitting}
 
 module _ (spot : Spot) (scope : Scope) where

@@ -1,12 +1,9 @@
 -- Index expressions, values and statements give no name to anything.
-use Rattle.spf_kernel.proofs.Common.{◌≡◌, nat_lt, Bool, true, false, List, [], ◌∷◌, ◌++◌, map, filter, flat_map, drop, Option, None, Some, refl, ap, ◌∙◌, if◌then◌else◌, Token, Large, Excess, RawIx, RawIx', Row_of-RawStep, end_of-RawStep, more_of-RawStep, RawMono, Number', RawMono-Number-1-None', RawMono-Number-1-Some', RawAtom, RawAtom', RawAtom-at-None', RawAtom-at-Some', end_of-RawIx, more_of-RawIx, RawValue, RawValue', Row_of-RawFactor, end_of-RawFactor, more_of-RawFactor, Row_of-RawSummand, end_of-RawSummand, more_of-RawSummand, RawFactor, Paren', Row_of-RawValue, end_of-RawValue, more_of-RawValue, RawAssign, RawCond, RawPart, Note, Spot, Scope, ix_notes, steps_notes, mono_notes, atom_notes, expression_notes, value_notes, facts_notes, summands_notes, fact_notes, subscript_notes, assign_notes, cond_notes, part_notes, ix_monomials, mark, monomial_limit, number_limit, number_notes, is_naming}
-use Rattle.std.proofs.lemmas.List.Elements.{filter-append}
+use Rattle.spf_kernel.proofs.Common.{◌≡◌, nat_lt, Bool, true, false, List, [], ◌∷◌, ◌++◌, map, filter, flat_map, drop, Option, None, Some, refl, ap, ◌∙◌, if◌then◌else◌, Token, Large, Excess, RawIx, RawIx', Row_of-RawStep, end_of-RawStep, more_of-RawStep, RawMono, Number', RawMono-Number-1-None', RawMono-Number-1-Some', RawAtom, RawAtom', RawAtom-at-None', RawAtom-at-Some', end_of-RawIx, more_of-RawIx, RawValue, RawValue', Row_of-RawFactor, end_of-RawFactor, more_of-RawFactor, Row_of-RawSummand, end_of-RawSummand, more_of-RawSummand, RawFactor, Paren', Row_of-RawValue, end_of-RawValue, more_of-RawValue, RawAssign, RawCond, RawPart, Note, Spot, Scope, ix_notes, steps_notes, mono_notes, atom_notes, expression_notes, value_notes, facts_notes, summands_notes, fact_notes, subscript_notes, assign_notes, cond_notes, part_notes, ix_monomials, mark, monomial_limit, number_limit, number_notes, is_naming, filter-append, out-RawAtom, Row_of-RawIx, nested_notes, inside_notes}
 use Rattle.spf_kernel.specs.declared.raw.RawMono.{Atom}
-use Rattle.spf_kernel.specs.declared.raw.RawAtom.{out-RawAtom, Row_of-RawIx}
 use Rattle.spf_kernel.specs.declared.raw.RawFactor.TheVariants as factor_is
 use Rattle.spf_kernel.specs.declared.raw.RawPart.TheVariants as part_is
 use Rattle.spf_kernel.specs.declared.note.Spot.TheVariants as spot_is
-use Rattle.spf_kernel.specs.Notes.{nested_notes, inside_notes}
 
 -- the notes that give a name
 abbrev pub giving : List Note → List Note

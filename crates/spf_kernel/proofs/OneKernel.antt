@@ -1,12 +1,13 @@
--- From a token on at most one kernel stands, with one raw tree, and where one stands no fault of syntax does.
-use Rattle.spf_kernel.proofs.Common.{◌≡◌, ℕ, List, Result, Place, bundle_words, Lexed, Tokenized, Kind, RawKernel, IsKernel, StandsAt}
+-- From a token on at most one kernel stands, with one raw tree, and where one stands no fault of syntax does: its tree is the only
+-- answer besides want of memory.
+use Rattle.spf_kernel.proofs.Common.{◌≡◌, ℕ, List, Result, Place, bundle_words, Lexed, Tokenized, Kind, RawKernel, IsKernel, StandsAt, Ok, Err, refl, sym, ap, ◌∙◌, subst, inl, inr, ◌⊎◌, texts, Tree, ParsesTo, meaning, IsUnbroken, kernel, IsSyntaxFault, kernel_notes, IsAnswer}
 use Rattle.spf_lex.specs.Standing.{FindsAt, FindsBy}
 use Rattle.spf_lex.specs.declared.parts.PartFault.{PartFault}
 use Rattle.spf_lex.specs.declared.text_kind.TextKind.{TextKind}
 use Rattle.spf_lex.proofs.Finding as finding
-use Rattle.spf_kernel.specs.Productions.{kernel}
-use Rattle.spf_kernel.specs.Stands.{IsSyntaxFault}
 use Rattle.spf_kernel.proofs.Clear.{kernel_clear, kernel_closed, kinds_exact}
+use Rattle.spf_kernel.specs.declared.fault.KernelFault.{KernelFault}
+use Rattle.spf_kernel.specs.declared.fault.KernelFault.TheVariants.{Syntax, Rule, Memory}
 
 pub one_tree : (tokens : List (Lexed Kind)) (a b : RawKernel) → IsKernel tokens a → IsKernel tokens b → a ≡ b
 one_tree = finding.one_yield kinds_exact kernel kernel_clear
@@ -20,3 +21,16 @@ module _ (tokens : Tokenized) (from : ℕ) where
 
   pub no_syntax_fault : (n : ℕ) (raw : RawKernel) (place : Place) (kind : TextKind) → StandsAt tokens from n raw → ¬ IsSyntaxFault tokens from place kind
   no_syntax_fault = finding.no_syntax_fault kinds_exact kernel kernel_clear bundle_words tokens kernel_closed from
+
+module _ (tokens : Tokenized) (from next : ℕ) (tree : Tree) (parses : ParsesTo tokens from next tree) where
+  pub one_answer : (answer : Result (Tree × ℕ) KernelFault) → IsAnswer tokens from answer → (answer ≡ Ok (tree, next)) ⊎ (answer ≡ Err Memory)
+  one_answer (Ok (other, end)) answer =
+      let same = one_kernel tokens from end next answer.raw parses.raw answer.stands parses.stands in
+      let means : other ≡ tree = answer.means ∙ ap (meaning (texts tokens)) same.1 ∙ sym parses.means in
+      inl (λ i. Ok (means i, same.0 i))
+  one_answer (Err (Syntax place kind)) answer = absurd (no_syntax_fault tokens from next parses.raw place kind parses.stands answer)
+  one_answer (Err (Rule place rule end)) answer =
+      let same = one_kernel tokens from next end parses.raw answer.raw parses.stands answer.stands in
+      let unbroken = subst (λ (raw : RawKernel). IsUnbroken (texts tokens) (kernel_notes raw)) same.1 parses.unbroken in
+      absurd (unbroken answer.at rule answer.breach.breaks)
+  one_answer (Err Memory) answer = inr refl

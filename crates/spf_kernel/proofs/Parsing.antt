@@ -1,9 +1,6 @@
 -- What `parse` answers, put together of what its steps answer.
-use Rattle.spf_kernel.proofs.Common.{◌≡◌, ℕ, Ok, Err, ap, ◌∙◌, Place, Tokenized, texts, each_text, RawKernel, Tree, Checked, Names, ParsesTo, IsParsed, tree_of, AreNames, StandsAt}
-use Rattle.spf_lex.specs.Tokens.{IsTokenized}
+use Rattle.spf_kernel.proofs.Common.{◌≡◌, ℕ, Ok, Err, ap, ◌∙◌, Place, Tokenized, texts, each_text, RawKernel, Tree, Checked, Names, ParsesTo, IsParsed, tree_of, AreNames, StandsAt, IsTokenized, kernel_notes, IsRuleFault, IsVerdict}
 use Rattle.spf_kernel.specs.declared.fault.Unkept.TheVariants.{Rule}
-use Rattle.spf_kernel.specs.Notes.{kernel_notes}
-use Rattle.spf_kernel.specs.Parsed.{IsRuleFault, IsVerdict}
 use Rattle.spf_kernel.proofs.NamesAreWords.{names_are_words}
 
 pub kept : (tokens : Tokenized) (raw : RawKernel) (names : Names) (tree : Tree) → Checked (texts tokens) (kernel_notes raw) (Ok names) → tree ≡ tree_of (texts tokens) names raw → IsVerdict tokens raw (Ok tree)

@@ -1,8 +1,5 @@
 -- Elements of a list that is put together from pieces, by their numbers.
-use Rattle.spf_kernel.proofs.Common.{◌≡◌, ℕ, ◌+◌, ◌<◌, ◌≤◌, List, [], ◌∷◌, ◌++◌, length, map, flat_map, take, drop, get_or, slice_get, None, Some, refl, ap, sym, ◌∙◌, append-nil, length-append, arith, take_more, take_all, slice_get_within, get_or_from_slice_get, option_map, inside, within}
-use Rattle.std.proofs.lemmas.List.{take-append-drop, get_or_append_left, get_or-append-add}
-use Rattle.std.proofs.lemmas.Grind.{flat_map-append}
-use Rattle.std.proofs.lemmas.Option.{slice_get_past, slice_get_read, slice_get-map}
+use Rattle.spf_kernel.proofs.Common.{◌≡◌, ℕ, ◌+◌, ◌<◌, ◌≤◌, List, [], ◌∷◌, ◌++◌, length, map, flat_map, take, drop, get_or, slice_get, None, Some, refl, ap, sym, ◌∙◌, append-nil, length-append, arith, take_more, take_all, slice_get_within, get_or_from_slice_get, option_map, inside, within, take-append-drop, get_or_append_left, get_or-append-add, flat_map-append, slice_get_past, slice_get_read, slice_get-map}
 
 in_the_middle : {B : Type 0} (before piece behind : List B) (left : ℕ) (y : B) → slice_get piece left ≡ Some y → slice_get ((before ++ piece) ++ behind) (length before + left) ≡ Some y
 in_the_middle before piece behind left y there =

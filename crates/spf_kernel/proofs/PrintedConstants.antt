@@ -1,14 +1,7 @@
 -- A constant of an index expression is printed as few numbers whose sum it is.
-use Rattle.spf_kernel.proofs.Common.{◌≡◌, ℕ, ℤ, pos, ◌+ℤ◌, ◌+◌, ◌*◌, ◌/◌, ◌%◌, ◌<◌, ◌≤◌, ◌^◌, suc, zero, Bool, true, false, List, [], ◌∷◌, length, replicate, unsigned_abs, refl, sym, ◌∙◌, arith, w64, true≢false, length-append, ◌==◌, if◌then◌else◌, is_negative, AllByRecursion, ints, nat_tests, sum_by-append, sum_by-cons, join_each, limit, pieces, fits}
-use Rattle.std.proofs.Common.{negsuc}
-use Rattle.std.specs.List.{sum}
-use Rattle.std.proofs.lemmas.Int.{int_wrap_fits, fits_signed_from_abs}
-use Rattle.std.proofs.lemmas.List.{length-replicate}
-use Rattle.std.proofs.lemmas.List.Folds.{sum_by-replicate}
+use Rattle.spf_kernel.proofs.Common.{◌≡◌, ℕ, ℤ, pos, ◌+ℤ◌, ◌+◌, ◌*◌, ◌/◌, ◌%◌, ◌<◌, ◌≤◌, ◌^◌, suc, zero, Bool, true, false, List, [], ◌∷◌, length, replicate, unsigned_abs, refl, sym, ◌∙◌, arith, w64, true≢false, length-append, ◌==◌, if◌then◌else◌, is_negative, AllByRecursion, ints, nat_tests, sum_by-append, sum_by-cons, join_each, limit, pieces, fits, negsuc, sum, int_wrap_fits, fits_signed_from_abs, length-replicate, sum_by-replicate, wrap, signed}
 use Rattle.std.proofs.lemmas.Nat.{div-add-mod'}
-use Rattle.spf_base.specs.Wrap.{wrap}
 use Rattle.spf_base.proofs.Wraps.{IsWrap-wrap, wrap_only}
-use Rattle.spf_kernel.specs.Resolved.{signed}
 
 -- ---- numbers of 64 bits
 

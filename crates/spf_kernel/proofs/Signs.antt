@@ -1,9 +1,5 @@
 -- Numbers of 64 bits with a sign in front of them, and their sums.
-use Rattle.spf_kernel.proofs.Common.{◌≡◌, ℕ, ℤ, pos, ◌+ℤ◌, ◌<◌, ◌^◌, ◌%◌, arith, w64, sym, ap, ◌∙◌, ints}
-use Rattle.std.proofs.Common.{neg_ℤ, ◌-ℤ◌}
-use Rattle.std.proofs.lemmas.Int.{int_wrap-add_left, int_wrap-add_right, int_wrap-sub_right}
-use Rattle.std.specs.Int.{cast_signed, int_wrap}
-use Rattle.spf_base.specs.Wrap.{wrap}
+use Rattle.spf_kernel.proofs.Common.{◌≡◌, ℕ, ℤ, pos, ◌+ℤ◌, ◌<◌, ◌^◌, ◌%◌, arith, w64, sym, ap, ◌∙◌, ints, neg_ℤ, ◌-ℤ◌, int_wrap-add_left, int_wrap-add_right, int_wrap-sub_right, cast_signed, int_wrap, wrap}
 
 pub wrap_pos : (n : ℕ) → n < 2 ^ 64 → cast_signed w64 n ≡ wrap (pos n)
 unfolding wrap int_wrap

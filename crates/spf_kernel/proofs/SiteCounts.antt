@@ -1,9 +1,5 @@
 -- The data sites of values, told of their parts as lists, and sums over the front of a list.
-use Rattle.spf_kernel.proofs.Common.{◌≡◌, ℕ, ◌+◌, ◌<◌, ◌≤◌, List, [], ◌∷◌, ◌++◌, length, take, get_or, refl, ap, sym, ◌∙◌, arith, take_more, sum_by_push, sum_by-cons, sum_by, Value, Value', Row_of-Prod, end_of-Prod, more_of-Prod, items-the_row-Prod, items_shown-the_row-Prod-1, Row_of-Factor, end_of-Factor, more_of-Factor, items-the_row-Factor, items_shown-the_row-Factor-0, value_sites, fact_sites, prod_sites}
-use Rattle.std.proofs.lemmas.List.Sums.{sum_by-take-le}
-use Rattle.spf_kernel.specs.declared.tree.Value.{out-Value}
-use Rattle.spf_kernel.specs.declared.tree.Factor.TheBlock.{shown-the_row-Factor-0}
-use Rattle.spf_kernel.specs.Sites.{prods_sites, facts_sites}
+use Rattle.spf_kernel.proofs.Common.{◌≡◌, ℕ, ◌+◌, ◌<◌, ◌≤◌, List, [], ◌∷◌, ◌++◌, length, take, get_or, refl, ap, sym, ◌∙◌, arith, take_more, sum_by_push, sum_by-cons, sum_by, Value, Value', Row_of-Prod, end_of-Prod, more_of-Prod, items-the_row-Prod, items_shown-the_row-Prod-1, Row_of-Factor, end_of-Factor, more_of-Factor, items-the_row-Factor, items_shown-the_row-Factor-0, value_sites, fact_sites, prod_sites, sum_by-take-le, out-Value, shown-the_row-Factor-0, prods_sites, facts_sites}
 
 -- one element more of the front of a list
 module _ {A : Type 0} (f : A → ℕ) (xs : List A) (n : ℕ) (x : A) (inside : n < length xs) (at : x ≡ get_or xs n x) where

@@ -1,10 +1,6 @@
 -- The sites of terms and values, told of their parts as lists.
-use Rattle.spf_kernel.proofs.Common.{◌≡◌, ℕ, ◌+◌, List, refl, ap, sym, ◌∙◌, sum_by-cons, sum_by, ℤ, Term, Term', roll-Term, out-roll-Term, Row_of-Mono, end_of-Mono, more_of-Mono, items-the_row-Mono, items_shown-the_row-Mono-0, Mono, Value, Value', roll-Value, out-roll-Value, Row_of-Prod, end_of-Prod, more_of-Prod, items-the_row-Prod, items_shown-the_row-Prod-1, Row_of-Factor, end_of-Factor, more_of-Factor, items-the_row-Factor, items_shown-the_row-Factor-0, Prod}
-use Rattle.spf_term.specs.Value.{applications, sum_applications, atom_applications}
-use Rattle.spf_term.specs.declared.term.Term.{out-Term}
+use Rattle.spf_kernel.proofs.Common.{◌≡◌, ℕ, ◌+◌, List, refl, ap, sym, ◌∙◌, sum_by-cons, sum_by, ℤ, Term, Term', roll-Term, out-roll-Term, Row_of-Mono, end_of-Mono, more_of-Mono, items-the_row-Mono, items_shown-the_row-Mono-0, Mono, Value, Value', roll-Value, out-roll-Value, Row_of-Prod, end_of-Prod, more_of-Prod, items-the_row-Prod, items_shown-the_row-Prod-1, Row_of-Factor, end_of-Factor, more_of-Factor, items-the_row-Factor, items_shown-the_row-Factor-0, Prod, applications, sum_applications, atom_applications, out-Term, out-Value, shown-the_row-Factor-0}
 use Rattle.spf_kernel.specs.BodySites.{value_sites, prods_sites, facts_sites, fact_sites, prod_sites}
-use Rattle.spf_kernel.specs.declared.tree.Value.{out-Value}
-use Rattle.spf_kernel.specs.declared.tree.Factor.TheBlock.{shown-the_row-Factor-0}
 
 -- ---- terms
 

@@ -1,9 +1,6 @@
 -- The tokens of a text are leaves: names have the texts of names, and numbers aren't too large.
-use Rattle.spf_kernel.proofs.Common.{◌≡◌, ℕ, ◌≤◌, ◌^◌, Bool, true, false, List, [], ◌∷◌, Some, None, get_or, length, not, ◌==◌, refl, arith, if◌then◌else◌, nat_le, ◌&&◌, bundle_words, IsTokenText}
-use Rattle.std.specs.List.{list_all}
+use Rattle.spf_kernel.proofs.Common.{◌≡◌, ℕ, ◌≤◌, ◌^◌, Bool, true, false, List, [], ◌∷◌, Some, None, get_or, length, not, ◌==◌, refl, arith, if◌then◌else◌, nat_le, ◌&&◌, bundle_words, IsTokenText, list_all, leb-true, kind_of, lexed, value_in}
 use Rattle.std.specs.Char.{is_ascii_digit, is_ascii_alphabetic}
-use Rattle.std.proofs.lemmas.Bool.{leb-true}
-use Rattle.spf_lex.specs.Language.{kind_of, lexed, value_in}
 use Rattle.spf_lex.specs.Lexeme.{lexeme_of, lexeme_by, is_numeral, value_of}
 use Rattle.spf_kernel.proofs.Written.{IsLeaf}
 

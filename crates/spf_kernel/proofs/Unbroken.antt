@@ -1,14 +1,8 @@
 -- Where no rule is broken, each fact keeps each rule behind those before: the declared names are apart, and at most 64 of a sort.
-use Rattle.spf_kernel.proofs.Common.{◌≡◌, ℕ, ◌+◌, ◌≤◌, ◌<◌, get_or, Bool, true, false, nat_le, ◌||◌, ◌&&◌, List, [], ◌∷◌, ◌++◌, length, filter, take, slice_get, Option, Some, refl, ap, sym, ◌∙◌, true≢false, append_assoc, append-nil, subst, ◌⊎◌, inl, inr, ⊎_elim, arith, ⊤, nat_tests, length-map, map-append, map_push, take_all, take_more, bytes_eq, insert_key, Before, Note, Says, Declared, Variable, Breach, IsFirst, Fact, fact_of, facts_of, names_of, IsUnbroken, count_that, is_data, is_in_scope, is_loop, is_naming, is_param, is_site, is_table, names_that, is_known, declares}
-use Rattle.std.proofs.Common.{cond}
-use Rattle.std.proofs.lemmas.Bool.{false_from_ne_true}
-use Rattle.std.proofs.lemmas.List.Sums.{length-filter}
+use Rattle.spf_kernel.proofs.Common.{◌≡◌, ℕ, ◌+◌, ◌≤◌, ◌<◌, get_or, Bool, true, false, nat_le, ◌||◌, ◌&&◌, List, [], ◌∷◌, ◌++◌, length, filter, take, slice_get, Option, Some, refl, ap, sym, ◌∙◌, true≢false, append_assoc, append-nil, subst, ◌⊎◌, inl, inr, ⊎_elim, arith, ⊤, nat_tests, length-map, map-append, map_push, take_all, take_more, bytes_eq, insert_key, Before, Note, Says, Declared, Variable, Breach, IsFirst, Fact, fact_of, facts_of, names_of, IsUnbroken, count_that, is_data, is_in_scope, is_loop, is_naming, is_param, is_site, is_table, names_that, is_known, declares, cond, false_from_ne_true, length-filter, before_of, once, IsShort}
 use Rattle.spf_kernel.specs.declared.note.Sort.TheVariants.{Param, Index, Data}
-use Rattle.spf_kernel.specs.Before.{before_of, once}
-use Rattle.spf_kernel.specs.Names.{IsShort}
 use Rattle.spf_kernel.specs.Rules.{late_name, rules}
-use Rattle.spf_kernel.proofs.Adding.{names_more, once_names_more, with_name}
-use Rattle.spf_kernel.proofs.Counting.{count_more, more}
+use Rattle.spf_kernel.proofs.Adding.{names_more, once_names_more, with_name, count_more, more}
 
 abbrev pub Keeps : List Fact → Fact → Type 0
 Keeps before fact = (n : ℕ) (test : List Fact → Fact → Bool) → slice_get rules n ≡ Some test → test before fact ≡ false

@@ -1,11 +1,7 @@
 -- The printed words of a part of a tree, as tokens of the printed text: they spell the part again, with the same facts.
-use Rattle.spf_kernel.proofs.Common.{◌≡◌, ℕ, Bool, ◌≤◌, ◌^◌, List, [], ◌++◌, get_or, refl, ap, sym, ◌∙◌, map-append, Derivation, Grammar, bundle_words, same_kind, Lexed, Production, Token, Kind, Holds, in_words, Note, Scope, TreeNames, Fact, fact_of, facts_of, text_of, variables_in, Names, names_of}
-use Rattle.spf_lex.specs.Language.{lexed}
+use Rattle.spf_kernel.proofs.Common.{◌≡◌, ℕ, Bool, ◌≤◌, ◌^◌, List, [], ◌++◌, get_or, refl, ap, sym, ◌∙◌, map-append, Derivation, Grammar, bundle_words, same_kind, Lexed, Production, Token, Kind, Holds, in_words, Note, Scope, TreeNames, Fact, fact_of, facts_of, text_of, variables_in, Names, names_of, lexed, IsFixed, Leaves, IsText}
 use Rattle.spf_lex.specs.declared.kind.Kind.TheVariants as kind
-use Rattle.spf_lex.proofs.FixedWords.{IsFixed}
-use Rattle.spf_lex.proofs.Leaves.{Leaves}
-use Rattle.spf_lex.proofs.PrintedWords.{IsText}
-use Rattle.spf_kernel.proofs.Counting.{more}
+use Rattle.spf_kernel.proofs.Adding.{more}
 use Rattle.spf_kernel.proofs.NamedUses.{AreFitting}
 
 -- a token with this number and text

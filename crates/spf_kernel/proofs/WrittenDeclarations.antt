@@ -1,5 +1,5 @@
 -- Declarations are written again.
-use Rattle.spf_kernel.proofs.Common.{◌≡◌, ℕ, false, List, [], ◌∷◌, ◌++◌, map, flat_map, refl, ap, sym, ◌∙◌, subst, codes, append_assoc, append-nil, bundle_words, ◌or◌, token, Token, small_fixed, symbol_fixed, Term, Note, RawIx, RawSized, RawDecl, DataDecl, Decl, text_of, fact_with, Names, names_of, param_note, head_notes, cells_notes, decl_notes, term_words, trend_words, array_words, decl_words, head_of, data_decl_of, decl_of}
+use Rattle.spf_kernel.proofs.Common.{◌≡◌, ℕ, false, List, [], ◌∷◌, ◌++◌, map, flat_map, refl, ap, sym, ◌∙◌, subst, codes, append_assoc, append-nil, bundle_words, ◌or◌, token, Token, small_fixed, symbol_fixed, Term, Note, RawIx, RawSized, RawDecl, DataDecl, Decl, text_of, fact_with, Names, names_of, param_note, head_notes, cells_notes, decl_notes, term_words, trend_words, array_words, decl_words, head_of, data_decl_of, decl_of, sized_words}
 use Rattle.spf_lex.specs.declared.kind.Kind.TheVariants as kind
 use Rattle.spf_kernel.specs.declared.note.Says.TheVariants as says_is
 use Rattle.spf_kernel.specs.declared.note.Sort.TheVariants as sort_is
@@ -7,7 +7,6 @@ use Rattle.spf_kernel.specs.declared.note.Spot.TheVariants as spot_is
 use Rattle.spf_kernel.specs.declared.raw.RawDecl.TheVariants as raw_decl
 use Rattle.spf_kernel.specs.declared.tree.Decl.TheVariants as decl_is
 use Rattle.spf_kernel.specs.Productions as syntax
-use Rattle.spf_kernel.specs.Printed.{sized_words}
 use Rattle.spf_kernel.proofs.Written.{in_source, IsFixedWord, Source, shown, Meaning, AreFit, AreWritten, same_by}
 use Rattle.spf_kernel.proofs.WrittenLoops.{outside}
 use Rattle.spf_kernel.proofs.WrittenParts.{Written, either_written, ◌&◌, led_by, ended_by, parted_by, a_sign, a_name, made_of}

@@ -1,11 +1,6 @@
 -- The printed words of a part of an index expression, as tokens of the printed text, and the sums that they make.
-use Rattle.spf_kernel.proofs.Common.{◌≡◌, ℕ, ℤ, pos, ◌+ℤ◌, ◌+◌, ◌≤◌, Bool, List, [], ◌∷◌, ◌++◌, length, length-append, map, flat_map, fold, is_some, refl, ap, sym, ◌∙◌, arith, append_assoc, AllByRecursion, ints, Derivation, Lexed, Kind, Holds, holds_both, behind_part, none_more, one_more, in_words, Term, roll-Term, Mono, Token, Spot, Scope, RawIx, RawStep, RawAtom, RawMono, Fact, facts_of, Names, ix_notes, mono_notes, ix_monomials, mono_monomials, sign_word, lead_words, term_words, alone_of, constant_of, monos_of, term_of}
-use Rattle.spf_base.specs.Wrap.{wrap}
-use Rattle.spf_lex.specs.Grammar.{Many}
-use Rattle.spf_lex.proofs.Leaves.{Leaves}
-use Rattle.spf_kernel.specs.declared.raw.RawIx.{roll-RawIx, out-roll-RawIx}
+use Rattle.spf_kernel.proofs.Common.{◌≡◌, ℕ, ℤ, pos, ◌+ℤ◌, ◌+◌, ◌≤◌, Bool, List, [], ◌∷◌, ◌++◌, length, length-append, map, flat_map, fold, is_some, refl, ap, sym, ◌∙◌, arith, append_assoc, AllByRecursion, ints, Derivation, Lexed, Kind, Holds, holds_both, behind_part, none_more, one_more, in_words, Term, roll-Term, Mono, Token, Spot, Scope, RawIx, RawStep, RawAtom, RawMono, Fact, facts_of, Names, ix_notes, mono_notes, ix_monomials, mono_monomials, sign_word, lead_words, term_words, alone_of, constant_of, monos_of, term_of, wrap, Many, Leaves, roll-RawIx, out-roll-RawIx, Syntax}
 use Rattle.spf_kernel.specs.Productions as syntax
-use Rattle.spf_kernel.specs.Productions.{Syntax}
 use Rattle.spf_kernel.proofs.NoteEquations.{step_notes, ix_notes_are, ix_monomials_are, step_monomials}
 use Rattle.spf_kernel.proofs.TermEquations.{step_monos, term_is}
 use Rattle.spf_kernel.proofs.Written.{in_scope, AreText, IsLeaf, Context, names_in, Meaning, source, AreFit, facts_append}

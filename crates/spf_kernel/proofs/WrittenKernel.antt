@@ -1,10 +1,7 @@
 -- A kernel is written again: the words that its tree is printed as are read as the same tree, with notes that tell the same.
-use Rattle.spf_kernel.proofs.Common.{◌≡◌, ℕ, List, [], ◌∷◌, ◌++◌, map, flat_map, refl, ap, sym, ◌∙◌, subst, codes, append_assoc, bundle_words, Derivation, Lexed, Kind, small_fixed, Holds, in_words, RawIx, RawDecl, RawLoop, RawKernel, Tree, TreeNames, facts_of, Names, names_of, decl_notes, head_notes, decl_words, term_words, loop_words, words_of, decl_of, head_of, loop_of, tree_of, names_in}
+use Rattle.spf_kernel.proofs.Common.{◌≡◌, ℕ, List, [], ◌∷◌, ◌++◌, map, flat_map, refl, ap, sym, ◌∙◌, subst, codes, append_assoc, bundle_words, Derivation, Lexed, Kind, small_fixed, Holds, in_words, RawIx, RawDecl, RawLoop, RawKernel, Tree, TreeNames, facts_of, Names, names_of, decl_notes, head_notes, decl_words, term_words, loop_words, words_of, decl_of, head_of, loop_of, tree_of, names_in, Leaves, loop_notes, kernel_notes, words_with}
 use Rattle.spf_lex.specs.declared.kind.Kind.TheVariants as kind
-use Rattle.spf_lex.proofs.Leaves.{Leaves}
 use Rattle.spf_kernel.specs.Productions as syntax
-use Rattle.spf_kernel.specs.Notes.{loop_notes, kernel_notes}
-use Rattle.spf_kernel.specs.Printed.{words_with}
 use Rattle.spf_kernel.proofs.NamedLists.{params_found, tables_found, arrays_found}
 use Rattle.spf_kernel.proofs.Written.{IsLeaf, Source, shown, Meaning, AreFit, IsWritten, AreWritten, same_by}
 use Rattle.spf_kernel.proofs.WrittenDeclarations.{a_head, decl_as, decl_written}

@@ -1,19 +1,16 @@
 -- Loops are written again, and what stands in their bodies.
-use Rattle.spf_kernel.proofs.Common.{◌≡◌, ℕ, false, List, [], ◌∷◌, ◌++◌, map, flat_map, refl, ap, sym, ◌∙◌, codes, append_assoc, bundle_words, ◌<$>◌, many, Token, small_fixed, symbol_fixed, RawRange, RawPart, RawItem, RawLoop, text_of, fact_with, Names, names_of, part_notes, item_notes, part_words, range_words, item_words, loop_words, term_of, part_of, item_of, loop_of, nothing, within, inside}
+use Rattle.spf_kernel.proofs.Common.{◌≡◌, ℕ, false, List, [], ◌∷◌, ◌++◌, map, flat_map, refl, ap, sym, ◌∙◌, codes, append_assoc, bundle_words, ◌<$>◌, many, Token, small_fixed, symbol_fixed, RawRange, RawPart, RawItem, RawLoop, text_of, fact_with, Names, names_of, part_notes, item_notes, part_words, range_words, item_words, loop_words, term_of, part_of, item_of, loop_of, nothing, within, inside, Part, loop_notes, block}
 use Rattle.spf_lex.specs.declared.kind.Kind.TheVariants as kind
 use Rattle.spf_kernel.specs.declared.note.Sort.TheVariants as sort_is
 use Rattle.spf_kernel.specs.declared.note.Says.TheVariants as says_is
 use Rattle.spf_kernel.specs.declared.note.Spot.TheVariants as spot_is
 use Rattle.spf_kernel.specs.declared.raw.RawPart.TheVariants as raw_part
 use Rattle.spf_kernel.specs.declared.raw.RawItem.TheVariants as raw_item
-use Rattle.spf_kernel.specs.declared.tree.Part.{Part}
 use Rattle.spf_kernel.specs.declared.tree.Part.TheVariants as part_is
 use Rattle.spf_kernel.specs.declared.tree.Item.{Item}
 use Rattle.spf_kernel.specs.declared.tree.Item.TheVariants as item_is
 use Rattle.spf_kernel.specs.declared.tree.Loop.{Loop}
 use Rattle.spf_kernel.specs.Productions as syntax
-use Rattle.spf_kernel.specs.Notes.{loop_notes}
-use Rattle.spf_kernel.specs.Printed.{block}
 use Rattle.spf_kernel.proofs.Written.{in_source, Source, Context, shown, Meaning, AreWritten}
 use Rattle.spf_kernel.proofs.WrittenParts.{Behind, Written, either_written, ◌&◌, then_by, led_by, enclosed_by, repeated, a_name, made_of}
 use Rattle.spf_kernel.proofs.WrittenStatements.{Range, braced, a_part, a_range}

@@ -1,13 +1,8 @@
 -- Where the atoms are written again, so are the monomials and the sums of them.
-use Rattle.spf_kernel.proofs.Common.{suc, ◌≡◌, ℕ, ℤ, pos, ◌+◌, ◌≤◌, ◌==◌, Bool, true, false, if◌then◌else◌, List, [], ◌∷◌, ◌++◌, map, flat_map, is_some, refl, ap, ◌∙◌, subst, arith, inl, inr, codes, decimal, unsigned_abs, length, sym, is_negative, AllByRecursion, nat_tests, bundle_words, Derivation, Lexed, Kind, symbol_fixed, split_each, Holds, behind_word, behind_part, on_left, on_right, Mono, Note, Spot, RawAtom, Fact, facts_of, mono_notes, atom_notes, atom_monomials, number_notes, mono_words, atom_words, atom_of}
-use Rattle.spf_base.specs.Wrap.{wrap}
+use Rattle.spf_kernel.proofs.Common.{suc, ◌≡◌, ℕ, ℤ, pos, ◌+◌, ◌≤◌, ◌==◌, Bool, true, false, if◌then◌else◌, List, [], ◌∷◌, ◌++◌, map, flat_map, is_some, refl, ap, ◌∙◌, subst, arith, inl, inr, codes, decimal, unsigned_abs, length, sym, is_negative, AllByRecursion, nat_tests, bundle_words, Derivation, Lexed, Kind, symbol_fixed, split_each, Holds, behind_word, behind_part, on_left, on_right, Mono, Note, Spot, RawAtom, Fact, facts_of, mono_notes, atom_notes, atom_monomials, number_notes, mono_words, atom_words, atom_of, wrap, Leaves, Atom, Syntax, signed}
 use Rattle.spf_lex.specs.declared.kind.Kind.TheVariants as kind
-use Rattle.spf_lex.proofs.Leaves.{Leaves}
-use Rattle.spf_term.specs.declared.term.Atom.{Atom}
 use Rattle.spf_term.specs.declared.term.Mono.{roll-Mono}
 use Rattle.spf_kernel.specs.Productions as syntax
-use Rattle.spf_kernel.specs.Productions.{Syntax}
-use Rattle.spf_kernel.specs.Resolved.{signed}
 use Rattle.spf_kernel.proofs.NamedUses.{IsFitting}
 use Rattle.spf_kernel.proofs.NoteEquations.{step_notes, number_fits, number_within}
 use Rattle.spf_kernel.proofs.PrintedConstants.{wrap_small, wrap_twice, signed_back, signed_size}

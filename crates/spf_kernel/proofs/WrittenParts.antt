@@ -1,11 +1,8 @@
 -- What is written again where its parts are: words in front and behind, two parts, choices, lists, and what is made of a part.
-use Rattle.spf_kernel.proofs.Common.{◌≡◌, ℕ, ◌+◌, Bool, true, false, ◌&&◌, List, [], ◌∷◌, ◌++◌, length, map, flat_map, refl, ap, sym, subst, inl, inr, same_kind, Production, ◌<$>◌, ◌or◌, token, many, and_more, Token, Kind, split_each, Holds, holds_both, word_alone, behind_word, behind_part, on_left, on_right, none_more, one_more, in_words, Note, facts_of, text_of}
-use Rattle.spf_lex.specs.Production.{◌>>=◌, production, last, behind, separated}
+use Rattle.spf_kernel.proofs.Common.{◌≡◌, ℕ, ◌+◌, Bool, true, false, ◌&&◌, List, [], ◌∷◌, ◌++◌, length, map, flat_map, refl, ap, sym, subst, inl, inr, same_kind, Production, ◌<$>◌, ◌or◌, token, many, and_more, Token, Kind, split_each, Holds, holds_both, word_alone, behind_word, behind_part, on_left, on_right, none_more, one_more, in_words, Note, facts_of, text_of, ◌>>=◌, production, last, behind, separated, Leaves, Syntax}
 use Rattle.spf_lex.specs.declared.kind.Kind.TheVariants as kind
-use Rattle.spf_lex.proofs.Leaves.{Leaves}
 use Rattle.spf_kernel.specs.Printed as printed
-use Rattle.spf_kernel.specs.Productions.{Syntax}
-use Rattle.spf_kernel.proofs.Counting.{more}
+use Rattle.spf_kernel.proofs.Adding.{more}
 use Rattle.spf_kernel.proofs.NamedUses.{IsFitting}
 use Rattle.spf_kernel.proofs.Written.{Source, Meaning, AreWritten, AreFit, IsFixedWord, name_written, same_append}
 use Rattle.spf_kernel.proofs.WrittenSigns.{IsRead}

@@ -1,14 +1,10 @@
 -- Signs are read again from the words that they are printed as.
-use Rattle.spf_kernel.proofs.Common.{◌≡◌, ℕ, ◌≤◌, ◌^◌, ◌==◌, Bool, true, false, if◌then◌else◌, List, [], ◌∷◌, is_some, decimal, codes, refl, bundle_words, same_kind, Production, token, flag, one_of, Token, small_fixed, symbol_fixed, word_alone, on_left, on_right, Trend, sign_word, lead_words, becomes_word, compare_word, trend_words}
-use Rattle.spf_lex.specs.Production.{optional}
+use Rattle.spf_kernel.proofs.Common.{◌≡◌, ℕ, ◌≤◌, ◌^◌, ◌==◌, Bool, true, false, if◌then◌else◌, List, [], ◌∷◌, is_some, decimal, codes, refl, bundle_words, same_kind, Production, token, flag, one_of, Token, small_fixed, symbol_fixed, word_alone, on_left, on_right, Trend, sign_word, lead_words, becomes_word, compare_word, trend_words, optional, number_fixed, number_value, no_words, becomes}
 use Rattle.spf_lex.specs.declared.kind.Kind.TheVariants as kind
-use Rattle.spf_lex.proofs.FixedWords.{number_fixed, number_value}
-use Rattle.spf_lex.proofs.PrintedWords.{no_words}
 use Rattle.spf_kernel.specs.declared.tree.Compare.{Compare}
 use Rattle.spf_kernel.specs.declared.tree.Compare.TheVariants.{Equal, Unequal, Less, AtMost, Greater, AtLeast}
 use Rattle.spf_kernel.specs.declared.tree.Trend.TheVariants.{Free, Monotone, Strict}
 use Rattle.spf_kernel.specs.Productions as syntax
-use Rattle.spf_kernel.specs.Resolved.{becomes}
 use Rattle.spf_kernel.proofs.Written.{AreText, IsFixedWord}
 
 -- the words are a text of the production that is read as this

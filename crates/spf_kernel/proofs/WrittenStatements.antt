@@ -1,5 +1,5 @@
 -- Assignments, conditions, guarded assignments and ranges are written again.
-use Rattle.spf_kernel.proofs.Common.{◌≡◌, ℕ, Bool, true, false, List, [], ◌∷◌, ◌++◌, map, flat_map, refl, ap, ◌∙◌, codes, append_assoc, bundle_words, ◌<$>◌, small_fixed, symbol_fixed, Term, Spot, RawIx, RawValue, RawAssign, RawCond, RawGuard, RawRange, RawPart, Value, fact_of, text_of, fact_with, Names, number_of, expression_notes, assign_notes, cond_notes, guard_notes, part_notes, conds_head, mark, term_words, value_words, becomes_word, compare_word, assign_words, cond_words, part_words, range_words, term_of, assign_of, cond_of, guard_of, part_of, is_data, takes_data}
+use Rattle.spf_kernel.proofs.Common.{◌≡◌, ℕ, Bool, true, false, List, [], ◌∷◌, ◌++◌, map, flat_map, refl, ap, ◌∙◌, codes, append_assoc, bundle_words, ◌<$>◌, small_fixed, symbol_fixed, Term, Spot, RawIx, RawValue, RawAssign, RawCond, RawGuard, RawRange, RawPart, Value, fact_of, text_of, fact_with, Names, number_of, expression_notes, assign_notes, cond_notes, guard_notes, part_notes, conds_head, mark, term_words, value_words, becomes_word, compare_word, assign_words, cond_words, part_words, range_words, term_of, assign_of, cond_of, guard_of, part_of, is_data, takes_data, Part, ix_head, guard_words, becomes, value_of}
 use Rattle.spf_lex.specs.declared.kind.Kind.TheVariants as kind
 use Rattle.spf_kernel.specs.declared.note.Says.TheVariants as says_is
 use Rattle.spf_kernel.specs.declared.note.Spot.TheVariants as spot_is
@@ -7,14 +7,10 @@ use Rattle.spf_kernel.specs.declared.raw.RawPart.TheVariants as raw_part
 use Rattle.spf_kernel.specs.declared.tree.Assign.{Assign}
 use Rattle.spf_kernel.specs.declared.tree.Cond.{Cond}
 use Rattle.spf_kernel.specs.declared.tree.Guard.{Guard}
-use Rattle.spf_kernel.specs.declared.tree.Part.{Part}
 use Rattle.spf_kernel.specs.declared.tree.Part.TheVariants as part_is
 use Rattle.spf_kernel.specs.Printed as printed
 use Rattle.spf_kernel.specs.Productions as syntax
-use Rattle.spf_kernel.specs.Notes.{ix_head}
-use Rattle.spf_kernel.specs.Printed.{guard_words}
-use Rattle.spf_kernel.specs.Resolved.{becomes, value_of}
-use Rattle.spf_kernel.proofs.NamedNumbers.{number_declared}
+use Rattle.spf_kernel.proofs.FittingNames.{number_declared}
 use Rattle.spf_kernel.proofs.Written.{in_scope, IsFixedWord, Source, Context, source, names_in, shown_in, Meaning, AreWritten, vars_in}
 use Rattle.spf_kernel.proofs.WrittenParts.{Written, either_written, ◌&◌, led_by, ended_by, enclosed_by, repeated, parted_by, a_sign, a_name, made_of}
 use Rattle.spf_kernel.proofs.WrittenSigns.{becomes_written, compare_written}

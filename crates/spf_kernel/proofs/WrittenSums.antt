@@ -1,10 +1,6 @@
 -- The printed words of a sum whose monomials are written again mean the sum again.
-use Rattle.spf_kernel.proofs.Common.{◌≡◌, ◌⊎◌, ℕ, ℤ, pos, ◌+ℤ◌, ◌+◌, ◌-◌, ◌*◌, ◌≤◌, Bool, true, false, List, [], ◌∷◌, ◌++◌, length, map, flat_map, is_some, refl, ap, sym, ◌∙◌, subst, arith, append_assoc, append-nil, inl, inr, decimal, min, unsigned_abs, length-append, is_negative, AllByRecursion, ints, join_each, Holds, behind_part, on_left, absent, Term, roll-Term, out-roll-Term, Mono, Note, Token, Spot, RawStep, RawMono, RawAtom, Fact, facts_of, mono_notes, mono_monomials, sign_word, lead_words, limit, pieces, only_number, further_number, term_words, mono_words, further_mono, alone_of, monos_of, term_of, fits}
-use Rattle.std.specs.List.{sum}
-use Rattle.spf_base.specs.Wrap.{wrap}
+use Rattle.spf_kernel.proofs.Common.{◌≡◌, ◌⊎◌, ℕ, ℤ, pos, ◌+ℤ◌, ◌+◌, ◌-◌, ◌*◌, ◌≤◌, Bool, true, false, List, [], ◌∷◌, ◌++◌, length, map, flat_map, is_some, refl, ap, sym, ◌∙◌, subst, arith, append_assoc, append-nil, inl, inr, decimal, min, unsigned_abs, length-append, is_negative, AllByRecursion, ints, join_each, Holds, behind_part, on_left, absent, Term, roll-Term, out-roll-Term, Mono, Note, Token, Spot, RawStep, RawMono, RawAtom, Fact, facts_of, mono_notes, mono_monomials, sign_word, lead_words, limit, pieces, only_number, further_number, term_words, mono_words, further_mono, alone_of, monos_of, term_of, fits, sum, wrap, Syntax, signed}
 use Rattle.spf_kernel.specs.Productions as syntax
-use Rattle.spf_kernel.specs.Productions.{Syntax}
-use Rattle.spf_kernel.specs.Resolved.{signed}
 use Rattle.spf_kernel.proofs.NoteEquations.{step_notes, number_fits, step_monomials}
 use Rattle.spf_kernel.proofs.PrintEquations.{sum_printed, term_words_are}
 use Rattle.spf_kernel.proofs.PrintedConstants.{wrap_no_larger, wrap_twice, signed_back, signed_sum, IsPiece, first_sum, pieces_sum, pieces_small, pieces_few}

@@ -1,27 +1,21 @@
 -- Values are written again: the words that a value is printed as are read as the same value.
-use Rattle.spf_kernel.proofs.Common.{◌≡◌, ℕ, zero, suc, ◌+◌, ◌≤◌, ◌^◌, Bool, true, false, List, [], ◌∷◌, ◌++◌, map, flat_map, Option, None, Some, is_some, refl, ap, sym, ◌∙◌, subst, inl, inr, codes, if◌then◌else◌, list_any, bytes_eq, bundle_words, same_kind, Derivation, Lexed, Production, ◌<$>◌, flag, between, and_more, one_of, Token, Kind, symbol_fixed, Holds, stands_inside, behind_word, on_left, absent, Term, Note, Used, Scope, RawIx, out-roll-RawAtom, RawValue, RawSummand, RawFactor, Value, roll-Value, out-roll-Value, Prod, Factor, fact_of, facts_of, text_of, Names, number_of, note, value_notes, fact_notes, subscript_notes, mark, sign_word, lead_words, term_words, fact_words, prod_words, value_words, named, variable_of, table_of, data_array_of, is_data_array, bare_factor, term_of, factor_of, factor_at, product}
-use Rattle.spf_lex.specs.Production.{separated}
+use Rattle.spf_kernel.proofs.Common.{◌≡◌, ℕ, zero, suc, ◌+◌, ◌≤◌, ◌^◌, Bool, true, false, List, [], ◌∷◌, ◌++◌, map, flat_map, Option, None, Some, is_some, refl, ap, sym, ◌∙◌, subst, inl, inr, codes, if◌then◌else◌, list_any, bytes_eq, bundle_words, same_kind, Derivation, Lexed, Production, ◌<$>◌, flag, between, and_more, one_of, Token, Kind, symbol_fixed, Holds, stands_inside, behind_word, on_left, absent, Term, Note, Used, Scope, RawIx, out-roll-RawAtom, RawValue, RawSummand, RawFactor, Value, roll-Value, out-roll-Value, Prod, Factor, fact_of, facts_of, text_of, Names, number_of, note, value_notes, fact_notes, subscript_notes, mark, sign_word, lead_words, term_words, fact_words, prod_words, value_words, named, variable_of, table_of, data_array_of, is_data_array, bare_factor, term_of, factor_of, factor_at, product, separated, Leaves, roll-RawValue, out-roll-RawValue, Syntax, value_of}
 use Rattle.spf_lex.specs.declared.kind.Kind.TheVariants as kind
-use Rattle.spf_lex.proofs.Leaves.{Leaves}
 use Rattle.spf_kernel.specs.declared.note.Says.TheVariants as says_is
 use Rattle.spf_kernel.specs.declared.note.Spot.TheVariants as spot_is
-use Rattle.spf_kernel.specs.declared.raw.RawValue.{roll-RawValue, out-roll-RawValue}
 use Rattle.spf_kernel.specs.declared.raw.RawFactor.TheVariants as raw_factor
 use Rattle.spf_kernel.specs.declared.tree.Factor.TheVariants as factor
 use Rattle.spf_kernel.specs.Printed as printed
 use Rattle.spf_kernel.specs.Productions as syntax
-use Rattle.spf_kernel.specs.Productions.{Syntax}
-use Rattle.spf_kernel.specs.Resolved.{value_of}
 use Rattle.spf_kernel.proofs.FittingNames.{IsBare, IsEntry, entry_fits}
 use Rattle.spf_kernel.proofs.NamedUses.{IsFitting}
 use Rattle.spf_kernel.proofs.NoteEquations.{summand_notes, value_notes_are, paren_notes_are}
 use Rattle.spf_kernel.proofs.PrintEquations.{value_words_are}
-use Rattle.spf_kernel.proofs.ValueEquations.{summand_of, value_is, paren_is}
+use Rattle.spf_kernel.proofs.TermEquations.{summand_of, value_is, paren_is}
 use Rattle.spf_kernel.proofs.Written.{in_scope, IsLeaf, Context, source, names_in, shown_in, token_of, Meaning, AreFit, AreWritten, written_by, name_written, vars_in, same_by}
-use Rattle.spf_kernel.proofs.WrittenNames.{bare_is, variable_again, IsShown}
+use Rattle.spf_kernel.proofs.WrittenTerms.{bare_is, variable_again, IsShown, in_brackets, ix_written}
 use Rattle.spf_kernel.proofs.WrittenParts.{worded, pair_of, each_of, sign_as, in_a_row, both, made_written, both_written, enclosed_by, either_written, row_written, separated_written, sign_written}
 use Rattle.spf_kernel.proofs.WrittenSigns.{IsRead, number_written, summand_sign_written, summand_lead_written}
-use Rattle.spf_kernel.proofs.WrittenTerms.{in_brackets, ix_written}
 
 abbrev pub fact_as : Context → Meaning RawFactor Factor
 fact_as c = in_scope c factor_of fact_notes fact_words

@@ -55,7 +55,7 @@ impl Counts {
     }
 
     /// The counts with a fact more.
-    #[tactic(auto, using(crate::proofs::Counting::counts_after))]
+    #[tactic(auto, using(crate::proofs::Adding::counts_after))]
     pub(crate) fn with(self, note: &Note) -> Counts
         requires { IsBelow (2 ^ 63) self }
         ensures { (texts : List (List ℕ)) (before : List Fact) → self ≡ counts_of before → result ≡ counts_of (before ++ fact_of texts note.now ∷ []) }

@@ -28,7 +28,7 @@ const MOST_CONDITIONS: usize = 4;
 const MOST_SITES: usize = 256;
 
 /// The least of rules 5 to 11 that the note breaks.
-#[tactic(auto, using(crate::proofs::Counting::is_counted))]
+#[tactic(auto, using(crate::proofs::Adding::is_counted))]
 pub(crate) fn limit_rule(before: &Counts, note: &Note) -> Option<u32>
     requires { IsBelow (2 ^ 63) before.now }
     ensures { (texts : List (List ℕ)) (facts : List Fact) → before.now ≡ counts_of facts → result ≡ first_broken 5 limit_rules facts (fact_of texts note.now) }

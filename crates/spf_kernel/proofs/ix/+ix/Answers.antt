@@ -1,6 +1,5 @@
-use Rattle.spf_kernel.proofs.Common.{arith, sym, begins, from_parts, goes_on}
+use Rattle.spf_kernel.proofs.Common.{arith, sym, begins, from_parts, goes_on, atom, next_step}
 use Rattle.spf_kernel.proofs.ix.+ix.Goals as goal
-use Rattle.spf_kernel.specs.Productions.{atom, next_step}
 use Rattle.spf_kernel.proofs.Depths.{atom_deep}
 
 pub atom-returns-then-depth-gt0 : goal.atom-returns-then-depth-gt0

@@ -1,6 +1,5 @@
-use Rattle.spf_kernel.proofs.Common.{◌≡◌, ◌+◌, ◌*◌, ◌-◌, ◌++◌, made, begins, repeat, Rest}
+use Rattle.spf_kernel.proofs.Common.{◌≡◌, ◌+◌, ◌*◌, ◌-◌, ◌++◌, made, begins, repeat, Rest, atom, next_step}
 use Rattle.spf_kernel.proofs.ix.+ix.Given as goal
-use Rattle.spf_kernel.specs.Productions.{atom, next_step}
 
 abbrev pub decreases-atom : goal.decreases-atom
 decreases-atom l = 9 * l.depth

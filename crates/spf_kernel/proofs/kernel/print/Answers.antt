@@ -1,5 +1,4 @@
-use Rattle.spf_kernel.proofs.Common.{List, ℕ, ◌≡◌, sym, ap, ◌∙◌, subst, joined, Tree, IsTextOf, words_of}
-use Rattle.std.proofs.lemmas.Result.{IfOk-weaker}
+use Rattle.spf_kernel.proofs.Common.{List, ℕ, ◌≡◌, sym, ap, ◌∙◌, subst, joined, Tree, IsTextOf, words_of, IfOk-weaker}
 use Rattle.spf_kernel.proofs.kernel.print.Goals as goal
 use Rattle.spf_kernel.proofs.PrintedParses.{printed_parses}
 

@@ -1,6 +1,5 @@
-use Rattle.spf_kernel.proofs.Common.{List, All, flat_map, ◌++◌, subst, sym, texts, RawDecl, RawLoop, decl_notes, head_notes, AreNames}
+use Rattle.spf_kernel.proofs.Common.{List, All, flat_map, ◌++◌, subst, sym, texts, RawDecl, RawLoop, decl_notes, head_notes, AreNames, kernel_notes, loop_notes}
 use Rattle.spf_kernel.proofs.resolve.resolve.Goals as goal
-use Rattle.spf_kernel.specs.Notes.{kernel_notes, loop_notes}
 use Rattle.spf_kernel.proofs.Naming.{names_each, names_left, names_right}
 
 pub resolve_all-requires : goal.resolve_all-requires

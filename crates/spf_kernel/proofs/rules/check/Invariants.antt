@@ -1,6 +1,5 @@
-use Rattle.spf_kernel.proofs.Common.{◌≡◌, take, texts, IsFirst, facts_of}
+use Rattle.spf_kernel.proofs.Common.{◌≡◌, take, texts, IsFirst, facts_of, before_of}
 use Rattle.spf_kernel.proofs.rules.check.Given as goal
-use Rattle.spf_kernel.specs.Before.{before_of}
 
 abbrev pub invariant-loop-note : goal.invariant-loop-note
 invariant-loop-note l = record {

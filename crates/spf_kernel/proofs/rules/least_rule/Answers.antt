@@ -1,5 +1,4 @@
-use Rattle.spf_kernel.proofs.Common.{◌∙◌, texts, fact_of}
-use Rattle.std.specs.Option.{option_or}
+use Rattle.spf_kernel.proofs.Common.{◌∙◌, texts, fact_of, option_or}
 use Rattle.spf_kernel.proofs.rules.least_rule.Goals as goal
 use Rattle.spf_kernel.proofs.Adding.{counts_before}
 use Rattle.spf_kernel.proofs.FirstBreach.{names_first}

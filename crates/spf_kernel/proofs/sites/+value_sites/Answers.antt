@@ -1,6 +1,4 @@
-use Rattle.spf_kernel.proofs.Common.{◌≤◌, arith, common_steps, prod_sites}
-use Rattle.std.proofs.Common.{rules}
-use Rattle.spf_kernel.specs.declared.tree.Value.{the_lemmas}
+use Rattle.spf_kernel.proofs.Common.{◌≤◌, arith, common_steps, prod_sites, rules, the_lemmas}
 use Rattle.spf_kernel.proofs.sites.+value_sites.Goals as goal
 use Rattle.spf_kernel.proofs.SiteCounts.{sum_within, value_sites_are}
 

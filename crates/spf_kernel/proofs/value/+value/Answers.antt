@@ -1,6 +1,5 @@
-use Rattle.spf_kernel.proofs.Common.{arith, sym, same_kind, begins, further, sees, Star, from_parts, goes_on}
+use Rattle.spf_kernel.proofs.Common.{arith, sym, same_kind, begins, further, sees, Star, from_parts, goes_on, fact, next_summand}
 use Rattle.spf_kernel.proofs.value.+value.Goals as goal
-use Rattle.spf_kernel.specs.Productions.{fact, next_summand}
 use Rattle.spf_kernel.proofs.Depths.{fact_nested, fact_numbered}
 
 pub fact-returns-then-begins_number : goal.fact-returns-then-begins_number

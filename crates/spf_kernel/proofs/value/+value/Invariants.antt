@@ -1,6 +1,5 @@
-use Rattle.spf_kernel.proofs.Common.{◌≡◌, ◌+◌, ◌*◌, ◌-◌, ◌++◌, same_kind, made, begins, further, repeat, sees, Star, Rest}
+use Rattle.spf_kernel.proofs.Common.{◌≡◌, ◌+◌, ◌*◌, ◌-◌, ◌++◌, same_kind, made, begins, further, repeat, sees, Star, Rest, fact, next_summand}
 use Rattle.spf_kernel.proofs.value.+value.Given as goal
-use Rattle.spf_kernel.specs.Productions.{fact, next_summand}
 
 abbrev pub decreases-fact : goal.decreases-fact
 decreases-fact l = 10 * l.depth

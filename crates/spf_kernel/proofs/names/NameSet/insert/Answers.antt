@@ -1,5 +1,4 @@
-use Rattle.spf_kernel.proofs.Common.{bytes_eq}
-use Rattle.std.proofs.Common.{rules}
+use Rattle.spf_kernel.proofs.Common.{bytes_eq, rules}
 use Rattle.spf_kernel.proofs.names.NameSet.insert.Goals as goal
 use Rattle.spf_kernel.proofs.names.NameSet.insert.Goals.{in-Ok, in-Err}
 use Rattle.spf_kernel.proofs.NameLists.{map-insert_key}

@@ -1,5 +1,4 @@
-use Rattle.spf_kernel.proofs.Common.{◌≡◌, take, fold, is_some, pos, ◌+ℤ◌, RawStep, alone_of}
-use Rattle.spf_base.specs.Wrap.{wrap}
+use Rattle.spf_kernel.proofs.Common.{◌≡◌, take, fold, is_some, pos, ◌+ℤ◌, RawStep, alone_of, wrap}
 use Rattle.spf_kernel.proofs.resolve.terms.constant.Given as goal
 
 abbrev pub invariant-loop-step : goal.invariant-loop-step

@@ -1,6 +1,6 @@
 use Rattle.spf_kernel.proofs.Common.{arith, common_steps, texts}
 use Rattle.spf_kernel.proofs.resolve.values.+resolve_value.Goals as goal
-use Rattle.spf_kernel.proofs.ValueEquations.{value_is, paren_is}
+use Rattle.spf_kernel.proofs.TermEquations.{value_is, paren_is}
 
 pub resolve_factor-returns-in_ok-value-in-Paren : goal.resolve_factor-returns-in_ok-value-in-Paren
 resolve_factor-returns-in_ok-value-in-Paren t c =

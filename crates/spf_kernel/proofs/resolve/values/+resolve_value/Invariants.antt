@@ -1,6 +1,6 @@
 use Rattle.spf_kernel.proofs.Common.{◌≡◌, take, map, texts, factor_of}
 use Rattle.spf_kernel.proofs.resolve.values.+resolve_value.Given as goal
-use Rattle.spf_kernel.proofs.ValueEquations.{summand_of}
+use Rattle.spf_kernel.proofs.TermEquations.{summand_of}
 
 abbrev pub invariant-resolve_summand-loop-factor : goal.invariant-resolve_summand-loop-factor
 invariant-resolve_summand-loop-factor l = l.facts ≡ map (factor_of (texts l.source.tokens.now) l.source.names.now l.scope) (take l.factor-index l.factor-items)
