@@ -1,5 +1,5 @@
 -- What the rules ask of the facts, with one fact more.
-use Rattle.spf_kernel.proofs.Common.{◌≡◌, ℕ, ◌+◌, ◌<◌, ◌≤◌, Bool, true, false, not, List, [], ◌∷◌, ◌++◌, length, take, refl, ap, sym, ◌∙◌, arith, common_steps, length-take, sum_by_push, sum_by-cons, Says, IsBelow, Fact, is_param, is_table, is_data, is_loop, is_site, count_that, map, filter, append-nil, subst, map_push, map-append, bytes_eq, insert_key, Before, names_that, cond, reverse, take_while, reverse-append, length-reverse, prefix_len, count_by-le-length, fold_push, counts_of, is_target, is_factor, is_guard, is_condition, since, filter-append, once, before_of}
+use Rattle.spf_kernel.proofs.Common.{Note, fact_of, ◌≡◌, ℕ, ◌+◌, ◌<◌, ◌≤◌, Bool, true, false, not, List, [], ◌∷◌, ◌++◌, length, take, refl, ap, sym, ◌∙◌, arith, common_steps, length-take, sum_by_push, sum_by-cons, Says, IsBelow, Fact, is_param, is_table, is_data, is_loop, is_site, count_that, map, filter, append-nil, subst, map_push, map-append, bytes_eq, insert_key, Before, names_that, cond, reverse, take_while, reverse-append, length-reverse, prefix_len, count_by-le-length, fold_push, counts_of, is_target, is_factor, is_guard, is_condition, since, filter-append, once, before_of}
 use Rattle.spf_kernel.specs.declared.counts.Counts.{Counts}
 
 -- one more, where the test holds
@@ -94,30 +94,6 @@ counts_below limit before short =
       sites = omega (arith, plain is_site);
     }
 
--- what each count is
-pub record IsCounted (facts : List Fact) (counts : Counts) : Type 0 where
-  pub params : counts.params ≡ count_that is_param facts
-  pub tables : counts.tables ≡ count_that is_table facts
-  pub data_arrays : counts.data_arrays ≡ count_that is_data facts
-  pub loops : counts.loops ≡ count_that is_loop facts
-  pub targets : counts.targets ≡ count_that is_target (since is_loop facts)
-  pub factors : counts.factors ≡ count_that is_factor (since is_target facts)
-  pub conditions : counts.conditions ≡ count_that is_condition (since is_guard facts)
-  pub sites : counts.sites ≡ count_that is_site facts
-
-pub is_counted : (facts : List Fact) (counts : Counts) → counts ≡ counts_of facts → IsCounted facts counts
-unfolding counts_of
-is_counted facts counts e = record {
-  params = ap (λ (c : Counts). c.params) e;
-  tables = ap (λ (c : Counts). c.tables) e;
-  data_arrays = ap (λ (c : Counts). c.data_arrays) e;
-  loops = ap (λ (c : Counts). c.loops) e;
-  targets = ap (λ (c : Counts). c.targets) e;
-  factors = ap (λ (c : Counts). c.factors) e;
-  conditions = ap (λ (c : Counts). c.conditions) e;
-  sites = ap (λ (c : Counts). c.sites) e;
-}
-
 pub once_more : (names : List (List ℕ)) (name : List ℕ) → once (names ++ name ∷ []) ≡ insert_key bytes_eq (once names) name
 unfolding once
 once_more names name = fold_push (insert_key bytes_eq) [] names name
@@ -168,11 +144,13 @@ pub record Adds (old new : Before) (fact : Fact) : Type 0 where
   pub data_arrays : new.data_arrays ≡ with_name (is_data fact.says) old.data_arrays fact.name
   pub loops : new.loops ≡ with_name (is_loop fact.says) old.loops fact.name
 
-pub before_after : (facts : List Fact) (fact : Fact) (old new : Before) → old ≡ before_of facts → new.counts ≡ counts_of (facts ++ fact ∷ [])
-    → Adds old new fact → new ≡ before_of (facts ++ fact ∷ [])
+pub before_after : (texts : List (List ℕ)) (note : Note) (old new : Before)
+    → ((texts : List (List ℕ)) (facts : List Fact) → old.counts ≡ counts_of facts → new.counts ≡ counts_of (facts ++ fact_of texts note ∷ [])) → Adds old new (fact_of texts note)
+    → (facts : List Fact) → old ≡ before_of facts → new ≡ before_of (facts ++ fact_of texts note ∷ [])
 unfolding before_of
-before_after facts fact old new e counts adds =
-    same new (before_of (facts ++ fact ∷ [])) counts
+before_after texts note old new counts adds facts e =
+    let fact = fact_of texts note in
+    same new (before_of (facts ++ fact ∷ [])) (counts texts facts (counts_before facts old e))
     (adds.params ∙ (ap (λ (b : Before). with_name (is_param fact.says) b.params fact.name) e ∙ sym (once_names_more is_param facts fact)))
     (adds.tables ∙ (ap (λ (b : Before). with_name (is_table fact.says) b.tables fact.name) e ∙ sym (once_names_more is_table facts fact)))
     (adds.data_arrays ∙ (ap (λ (b : Before). with_name (is_data fact.says) b.data_arrays fact.name) e ∙ sym (once_names_more is_data facts fact)))

@@ -1,15 +1,11 @@
 -- Where no rule is broken, each index expression in the tree that a kernel means is bounded, and its loops are few.
-use Rattle.spf_kernel.proofs.Common.{ℕ, ◌+◌, ◌*◌, ◌^◌, ◌≤◌, Bool, true, false, List, [], ◌∷◌, ◌++◌, length, fold, Option, None, Some, is_some, ap, subst, ℤ, pos, ◌+ℤ◌, unsigned_abs, arith, ints, if◌then◌else◌, ⊤, AllByRecursion, split_each, length-append, Term, Term', roll-Term, out-roll-Term, Row_of-Mono, end_of-Mono, more_of-Mono, items-the_row-Mono, items_shown-the_row-Mono-0, Mono, Token, Spot, Scope, RawIx, RawIx', Row_of-RawStep, end_of-RawStep, more_of-RawStep, items-the_row-RawStep, items_shown-the_row-RawStep-1, RawStep, RawMono, Number', RawMono-Number-1-None', RawMono-Number-1-Some', RawAtom, RawAtom', RawAtom-at-None', RawAtom-at-Some', end_of-RawIx, more_of-RawIx, RawValue, RawValue', Row_of-RawFactor, end_of-RawFactor, more_of-RawFactor, Row_of-RawSummand, end_of-RawSummand, more_of-RawSummand, RawFactor, Paren', end_of-RawValue, more_of-RawValue, Value, Value', roll-Value, out-roll-Value, Row_of-Prod, end_of-Prod, more_of-Prod, items-the_row-Prod, items_shown-the_row-Prod-1, Row_of-Factor, end_of-Factor, more_of-Factor, items-the_row-Factor, items_shown-the_row-Factor-0, Prod, Fact, text_of, variables_in, Names, ix_notes, steps_notes, mono_notes, atom_notes, value_notes, facts_notes, summands_notes, fact_notes, subscript_notes, excess_notes, expression_notes, ix_monomials, mono_monomials, atom_monomials, monomial_limit, number_notes, alone_of, constant_of, variable_of, table_of, data_array_of, is_data_array, bare_atom, bare_factor, term_of, more_monos, monos_of, atom_of, factor_at, more_factors, more_prods, factor_of, ◌<◌, map, flat_map, Ok, refl, sym, length-map, All-from_recursion, RawAssign, RawCond, RawGuard, RawPart, RawItem, RawLoop, RawDecl, RawKernel, DataDecl, Tree, Tokenized, texts, facts_of, names_of, note, Variable, Declared, body_notes, bound_notes, head_notes, assign_notes, cond_notes, guard_notes, part_notes, item_notes, cells_notes, decl_notes, assign_of, cond_of, guard_of, part_of, item_of, loop_of, head_of, data_decl_of, decl_of, tree_of, IsUnbroken, is_data, is_loop, nothing, within, inside, wrap, Atom, out-Term, out-RawIx, steps_monomials, loop_notes, kernel_notes, signed, IsVerdict}
+use Rattle.spf_kernel.proofs.Common.{Sort, Factor, ℕ, ◌+◌, ◌*◌, ◌^◌, ◌≤◌, Bool, true, false, List, [], ◌∷◌, ◌++◌, length, fold, Option, None, Some, is_some, ap, subst, ℤ, pos, ◌+ℤ◌, unsigned_abs, arith, ints, if◌then◌else◌, ⊤, AllByRecursion, split_each, length-append, Term, Term', roll-Term, out-roll-Term, Row_of-Mono, end_of-Mono, more_of-Mono, items-the_row-Mono, items_shown-the_row-Mono-0, Mono, Token, Spot, Scope, RawIx, RawIx', Row_of-RawStep, end_of-RawStep, more_of-RawStep, items-the_row-RawStep, items_shown-the_row-RawStep-1, RawStep, RawMono, Number', RawMono-Number-1-None', RawMono-Number-1-Some', RawAtom, RawAtom', RawAtom-at-None', RawAtom-at-Some', end_of-RawIx, more_of-RawIx, Fact, text_of, variables_in, Names, ix_notes, steps_notes, mono_notes, atom_notes, subscript_notes, excess_notes, expression_notes, ix_monomials, mono_monomials, atom_monomials, monomial_limit, number_notes, alone_of, constant_of, variable_of, table_of, data_array_of, is_data_array, bare_atom, bare_factor, term_of, more_monos, monos_of, atom_of, factor_at, ◌<◌, map, flat_map, Ok, refl, sym, length-map, All-from_recursion, RawLoop, RawKernel, Tree, Tokenized, texts, facts_of, names_of, note, Variable, Declared, bound_notes, head_notes, item_notes, decl_notes, loop_of, tree_of, IsUnbroken, is_data, is_loop, nothing, wrap, Atom, out-Term, out-RawIx, steps_monomials, loop_notes, kernel_notes, signed, IsVerdict}
 use Rattle.spf_term.specs.Bounded.{IsWithin, IsBounded, monomials, sum_monomials, HasSmallNumbers, HaveSmallNumbers, AtomHasSmallNumbers}
 use Rattle.spf_term.specs.Bounded as term_bounds
 use Rattle.spf_kernel.specs.Bounded.{IsBoundedFactor, bounded, IsBoundedLoop, IsBoundedTree}
-use Rattle.spf_kernel.specs.declared.note.Spot.TheVariants as spot_is
-use Rattle.spf_kernel.specs.declared.raw.RawMono as raw_mono
-use Rattle.spf_kernel.specs.declared.tree.Factor.TheVariants as factor
 use Rattle.spf_kernel.proofs.NamedUses.{AreFitting, IsFitting, all_fit}
 use Rattle.spf_kernel.proofs.NoteEquations.{few_monomials, number_within}
 use Rattle.spf_kernel.proofs.PrintedConstants.{signed_size, wrap_no_larger}
-use Rattle.spf_kernel.specs.declared.note.Sort.TheVariants as sort_is
 use Rattle.spf_kernel.proofs.BodySites.{loop_within}
 use Rattle.spf_kernel.proofs.Kept.{AreKept, all_kept, loop_kept}
 use Rattle.spf_kernel.proofs.NamedLists.{arrays_found}
@@ -64,7 +60,7 @@ module _ (texts : List (List ℕ)) (facts : List Fact) (scope : Scope) where
     alone_within : (minus : Bool) (x : RawMono) → AreFitting texts facts (mono_notes spot scope x) → unsigned_abs (alone_of minus x) ≤ length (mono_monomials x) * 2 ^ 22
     alone_within minus (Number' number RawMono-Number-1-None') each = omega (arith, signed_size minus number.value, number_within texts facts false number each)
     alone_within minus (Number' number (RawMono-Number-1-Some' atom)) each = omega (arith, ints)
-    alone_within minus (raw_mono.Atom atom) each = omega (arith, ints)
+    alone_within minus (RawMono.Atom atom) each = omega (arith, ints)
 
     -- each number adds at most 2^22
     sum_within : {n : _} (row : Row_of-RawStep n) (total : ℤ) → AreFitting texts facts (steps_notes spot scope row)
@@ -108,7 +104,7 @@ module _ (texts : List (List ℕ)) (facts : List Fact) (scope : Scope) where
           let parts = split_each (IsFitting texts facts) (number_notes true number) (atom_notes spot scope atom) each in
           let one = atom_sized atom parts.1 (omega (arith, few)) in
           (left, omega (arith, one.0), coef_small minus number.value (number_within texts facts true number parts.0), one.1, rest)
-      mono_sized minus (raw_mono.Atom atom) each left few others rest =
+      mono_sized minus (RawMono.Atom atom) each left few others rest =
           let one = atom_sized atom each (omega (arith, few)) in
           (left, omega (arith, one.0), coef_small minus 1 (omega arith), one.1, rest)
 
@@ -130,7 +126,7 @@ module _ (texts : List (List ℕ)) (facts : List Fact) (scope : Scope) where
         record { few = omega (arith, sized.few, all); small = sized.small }
       where
         by_limit : (spot : Spot) → length (ix_monomials x) ≤ monomial_limit spot → length (ix_monomials x) ≤ 64
-        by_limit spot_is.Bound few = omega (arith, few)
+        by_limit Spot.Bound few = omega (arith, few)
         by_limit spot few = few
 
   -- ---- values
@@ -144,9 +140,9 @@ module _ (texts : List (List ℕ)) (facts : List Fact) (scope : Scope) where
     pub at_bounded : (name : Token) (at : Option RawIx) → AreFitting texts facts (subscript_notes scope at) → IsBoundedFactor (factor_at texts names scope name at)
     at_bounded name None each = factor_bare name (variable_of (variables_in texts scope) (text_of texts name))
     at_bounded name (Some ix) each = by (is_data_array texts names name) where
-      by : (b : Bool) → IsBoundedFactor (if b then factor.Cell (data_array_of texts names name) (term_of texts names scope ix) else factor.Index (table_of texts names name) (term_of texts names scope ix))
-      by true = expression_bounded names spot_is.Body ix each
-      by false = expression_bounded names spot_is.Body ix each
+      by : (b : Bool) → IsBoundedFactor (if b then Factor.Cell (data_array_of texts names name) (term_of texts names scope ix) else Factor.Index (table_of texts names name) (term_of texts names scope ix))
+      by true = expression_bounded names Spot.Body ix each
+      by false = expression_bounded names Spot.Body ix each
 
 module _ (texts : List (List ℕ)) (facts : List Fact) where
   leaves : AreKept texts facts (λ variables. bounded)
@@ -179,7 +175,7 @@ loops_declared (x ∷ xs) =
       arith,
       loops_declared xs,
       both is_loop (loop_notes x) (flat_map loop_notes xs),
-      counted is_loop (note x.name (Declared sort_is.Loop) nothing) here refl,
+      counted is_loop (note x.name (Declared Sort.Loop) nothing) here refl,
     )
 
 module _ (texts : List (List ℕ)) (x : RawKernel) (unbroken : IsUnbroken texts (kernel_notes x)) where

@@ -2,13 +2,11 @@
 pub use Rattle.indexmap.specs.IndexSet.{insert_key}
 pub use Rattle.spf_base.specs.Word.{IsName}
 unfoldable pub use Rattle.spf_base.specs.Wrap.{wrap}
-unfoldable pub use Rattle.spf_kernel.specs.Before.{before_of, once}
+pub use Rattle.spf_kernel.specs.Before.{IsBelow}
+unfoldable pub use Rattle.spf_kernel.specs.Before.{before_of, counts_of, once}
 pub use Rattle.spf_kernel.specs.Checked.{Checked, IsFirst, Precedes, first_broken}
 unfoldable pub use Rattle.spf_kernel.specs.Checked.{least_rule}
-pub use Rattle.spf_kernel.specs.Counts.{IsBelow}
-unfoldable pub use Rattle.spf_kernel.specs.Counts.{counts_of}
 pub use Rattle.spf_kernel.specs.Facts.{Fact, fact_of, fact_with, facts_of, text_of, variables_in}
-pub use Rattle.spf_kernel.specs.IsKernel.{IsKernel}
 pub use Rattle.spf_kernel.specs.Kept.{KeepFactors, KeepProds, KeepsAssign, KeepsCond, KeepsDecl, KeepsFactor, KeepsGuard, KeepsItem, KeepsLoop, KeepsPart, KeepsValue, Property}
 pub use Rattle.spf_kernel.specs.Named.{IsNamedTerm, NameCounts}
 pub use Rattle.spf_kernel.specs.Names.{IsShort, Names, names_of, number_of}
@@ -21,12 +19,12 @@ unfoldable pub use Rattle.spf_kernel.specs.Productions.{atom, decl, fact, index,
 pub use Rattle.spf_kernel.specs.Resolved.{AreNames, alone_of, assign_of, atom_of, bare_atom, bare_factor, becomes, cond_of, constant_of, data_array_of, data_decl_of, decl_of, factor_at, factor_of, guard_of, head_of, is_data_array, item_of, loop_of, monomial, monos_of, more_factors, more_monos, more_prods, part_of, product, signed, table_of, term_of, tree_of, value_of, variable_of}
 pub use Rattle.spf_kernel.specs.Rules.{IsUnbroken, count_that, declares, fits, is_condition, is_data, is_factor, is_guard, is_in_scope, is_known, is_loop, is_naming, is_param, is_site, is_table, is_target, names_that, since, takes_data, takes_table, tokens_that}
 pub use Rattle.spf_kernel.specs.Scopes.{inside, nothing, within}
-pub use Rattle.spf_kernel.specs.Sites.{assign_sites, data_sites, fact_sites, facts_sites, guard_sites, item_sites, loop_sites, part_sites, prod_sites, prods_sites, value_sites}
-pub use Rattle.spf_kernel.specs.Stands.{IsSyntaxFault, StandsAt}
+pub use Rattle.spf_kernel.specs.Sites.{Weights, assign_sites, cond_sites, data_sites, fact_sites, facts_sites, guard_sites, item_sites, loop_sites, of_data, part_sites, prod_sites, prods_sites, value_sites}
+pub use Rattle.spf_kernel.specs.Stands.{IsKernel, IsSyntaxFault, StandsAt}
 pub use Rattle.spf_kernel.specs.TreeNames.{arrays_of, name_at, names_in, params_of, tables_of}
-pub use Rattle.spf_kernel.specs.Types.{Place, Note, Says, Scope, Spot, RawAssign, RawAtom, RawAtom', RawAtom-at-None', RawAtom-at-Some', end_of-RawIx, more_of-RawIx, RawCond, RawDecl, Paren', RawFactor, Row_of-RawValue, end_of-RawValue, more_of-RawValue, RawGuard, RawItem, RawIx, RawIx', Row_of-RawStep, end_of-RawStep, more_of-RawStep, RawKernel, RawLoop, Number', RawMono, RawMono-Number-1-None', RawMono-Number-1-Some', RawPart, RawRange, RawSized, RawStep, RawSummand, RawValue, RawValue', Row_of-RawFactor, Row_of-RawSummand, end_of-RawFactor, end_of-RawSummand, more_of-RawFactor, more_of-RawSummand, DataDecl, Decl, Factor, Prod, Tree, Trend, Row_of-Factor, Row_of-Prod, Value, Value', end_of-Factor, end_of-Prod, more_of-Factor, more_of-Prod, roll-Value, TreeNames, Token, Kind, Mono, Row_of-Mono, Term, Term', end_of-Mono, more_of-Mono, roll-Term}
+pub use Rattle.spf_kernel.specs.Types.{roll-Mono, Guard, Assign, Compare, Loop, Item, Span, TextKind, Unkept, Cond, Place, Note, Says, Scope, Spot, RawAssign, RawAtom, RawAtom', RawAtom-at-None', RawAtom-at-Some', end_of-RawIx, more_of-RawIx, RawCond, RawDecl, Paren', RawFactor, Row_of-RawValue, end_of-RawValue, more_of-RawValue, RawGuard, RawItem, RawIx, RawIx', Row_of-RawStep, end_of-RawStep, more_of-RawStep, RawKernel, RawLoop, Number', RawMono, RawMono-Number-1-None', RawMono-Number-1-Some', RawPart, RawRange, RawSized, RawStep, RawSummand, RawValue, RawValue', Row_of-RawFactor, Row_of-RawSummand, end_of-RawFactor, end_of-RawSummand, more_of-RawFactor, more_of-RawSummand, DataDecl, Decl, Factor, Prod, Tree, Trend, Row_of-Factor, Row_of-Prod, Value, Value', end_of-Factor, end_of-Prod, more_of-Factor, more_of-Prod, roll-Value, TreeNames, Token, Kind, Mono, Row_of-Mono, Term, Term', end_of-Mono, more_of-Mono, roll-Term}
 pub use Rattle.spf_kernel.specs.declared.before.Before.{Before}
-pub use Rattle.spf_kernel.specs.declared.note.Says.TheVariants.{Condition, Declared, Excess, Guard, Large, Used, Variable}
+pub use Rattle.spf_kernel.specs.declared.note.Says.TheVariants.{Declared, Excess, Large, Used, Variable}
 pub use Rattle.spf_kernel.specs.declared.note.Sort.{Sort}
 pub use Rattle.spf_kernel.specs.declared.raw.RawAtom.{Row_of-RawIx, out-roll-RawAtom}
 unfoldable pub use Rattle.spf_kernel.specs.declared.raw.RawAtom.{out-RawAtom}

@@ -1,6 +1,5 @@
 -- Atoms and factors where brackets and parentheses may still stand.
-use Rattle.spf_kernel.proofs.Common.{◌≡◌, ℕ, zero, suc, ◌-◌, ◌<◌, true, false, List, refl, ap, arith, made, Lexed, begins, Kind, atom, fact, ix, nested, number, subscripted, value}
-use Rattle.spf_kernel.specs.declared.raw.RawFactor.TheVariants as factor_is
+use Rattle.spf_kernel.proofs.Common.{RawFactor, ◌≡◌, ℕ, zero, suc, ◌-◌, ◌<◌, true, false, List, refl, ap, arith, made, Lexed, begins, Kind, atom, fact, ix, nested, number, subscripted, value}
 
 pub atom_deep : (depth : ℕ) (tokens : List (Lexed Kind)) → 0 < depth → (atom depth).read tokens ≡ (subscripted (ix (depth - 1))).read tokens
 unfolding atom ix
@@ -9,7 +8,7 @@ atom_deep (suc depth) tokens deep =
     let e : depth ≡ suc depth - 1 = omega arith in
     ap (λ (n : ℕ). (subscripted (ix n)).read tokens) e
 
-pub fact_numbered : (depth : ℕ) (tokens : List (Lexed Kind)) → begins number tokens ≡ true → (fact depth).read tokens ≡ made factor_is.Number (number.read tokens)
+pub fact_numbered : (depth : ℕ) (tokens : List (Lexed Kind)) → begins number tokens ≡ true → (fact depth).read tokens ≡ made RawFactor.Number (number.read tokens)
 unfolding fact
 fact_numbered zero tokens e = rw e refl
 fact_numbered (suc depth) tokens e = rw e refl

@@ -1,5 +1,5 @@
 -- The first breach of the notes, with one note more.
-use Rattle.spf_kernel.proofs.Common.{◌≡◌, ℕ, ◌+◌, ◌<◌, ◌≤◌, Bool, true, false, List, [], ◌∷◌, ◌++◌, length, slice_get, Option, None, Some, refl, ap, sym, ◌∙◌, subst, nat_lt, zero, suc, if◌then◌else◌, ◌⊎◌, inl, inr, ⊎_elim, append_assoc, length-append, arith, ltb-false, Note, Breach, IsFirst, Fact, fact_of, facts_of, IsUnbroken, ltb-true, option_or, first_broken, least_rule, Precedes}
+use Rattle.spf_kernel.proofs.Common.{◌≡◌, ℕ, ◌+◌, ◌≤◌, Bool, true, false, List, [], ◌∷◌, ◌++◌, length, slice_get, Option, None, Some, refl, ap, sym, ◌∙◌, subst, nat_lt, zero, suc, if◌then◌else◌, ◌⊎◌, inl, inr, ⊎_elim, append_assoc, length-append, arith, ltb-false, Note, Breach, IsFirst, Fact, fact_of, facts_of, IsUnbroken, ltb-true, option_or, first_broken, least_rule, Precedes}
 use Rattle.spf_kernel.specs.Rules.{rules, name_rules, limit_rules, has_capital, is_taken, is_unknown, is_misused, Breaks, IsFirstBreach}
 
 -- a split of a list with one element more is at that element, or a split of the list
@@ -21,9 +21,16 @@ splits (z ∷ zs) new (y ∷ ys) x after e =
     let tails : zs ++ new ∷ [] ≡ ys ++ x ∷ after = cc in
     further z y zs ys new x heads (splits zs new ys x after tails)
 
--- what doesn't come before stands at a place no less, and at the same place with a rule no less
-comes_behind : (a b : Breach) → ¬ Precedes a b → (b.place ≤ a.place) × (a.place ≡ b.place → b.rule ≤ a.rule)
-comes_behind a b behind = (by (nat_lt a.place b.place) refl, λ same. at_one_place same (nat_lt a.rule b.rule) refl) where
+-- a breach stands at a place no later, and at the same place it is of no later rule
+abbrev Leads : Breach → Breach → Type 0
+Leads a b = (a.place ≤ b.place) × (a.place ≡ b.place → a.rule ≤ b.rule)
+
+leads_on : (a b c : Breach) → Precedes a b → Leads b c → Leads a c
+leads_on a b c (inl less) leads = (omega (arith, less, leads.0), λ same. absurd (omega (arith, less, leads.0, same)))
+leads_on a b c (inr (same, less)) leads = (omega (arith, same, leads.0), λ e. omega (arith, less, leads.1 (sym same ∙ e)))
+
+comes_behind : (a b : Breach) → ¬ Precedes a b → Leads b a
+comes_behind a b behind = (by (nat_lt a.place b.place) refl, λ same. at_one_place (sym same) (nat_lt a.rule b.rule) refl) where
   by : (t : Bool) → nat_lt a.place b.place ≡ t → b.place ≤ a.place
   by true e = absurd (behind (inl (ltb-true a.place b.place e)))
   by false e = ltb-false a.place b.place e
@@ -134,60 +141,42 @@ module _ (texts : List (List ℕ)) where
           λ rule b. omega (arith, first.numbers, b.number.1, first.least b.number.0 b.test b.number.2 b.broken),
         )
 
+    abbrev at_note : ℕ → Breach
+    at_note rule = record { place = note.token.at; rule = rule }
+
+    here_leads : (least : ℕ) → ((rule : ℕ) → Broken notes note rule → least ≤ rule) → (p r : ℕ) → (p ≡ note.token.at) × Broken notes note r → Leads (at_note least) (record { place = p; rule = r })
+    here_leads least lesser p r h = (omega (arith, h.0), λ same. lesser r h.1)
+
+    -- the first breach is one that leads all others
+    first_by : (a : Breach) → Breaks texts (notes ++ note ∷ []) a.place a.rule → ((p r : ℕ) → Breaks texts (notes ++ note ∷ []) p r → Leads a (record { place = p; rule = r })) → IsFirstBreach texts (notes ++ note ∷ []) a.place a.rule
+    first_by a breaks leads = record { breaks = breaks; least_place = λ p r b. (leads p r b).0; least_rule = λ r b. (leads a.place r b).1 refl }
+
+    leads_all : (a : Breach) → IsFirstBreach texts notes a.place a.rule → (p r : ℕ) → Breaks texts notes p r → Leads a (record { place = p; rule = r })
+    leads_all a first p r b = (first.least_place p r b, λ same. first.least_rule r (subst (λ place. Breaks texts notes place r) (sym same) b))
+
     pub still_first : (best : Option Breach) → IsFirst texts notes best → least_rule seen fact ≡ None → IsFirst texts (notes ++ note ∷ []) best
     still_first None unbroken none = λ place rule b. ⊎_elim (unbroken place rule) (λ here. none_broken none rule here.1) (breaks_either place rule b)
-    still_first (Some best) first none = record {
-      breaks = breaks_still best.place best.rule first.breaks;
-      least_place = λ place rule b. ⊎_elim (first.least_place place rule) (λ here. absurd (none_broken none rule here.1)) (breaks_either place rule b);
-      least_rule = λ rule b. ⊎_elim (first.least_rule rule) (λ here. absurd (none_broken none rule here.1)) (breaks_either best.place rule b);
-    }
+    still_first (Some best) first none =
+        first_by best (breaks_still best.place best.rule first.breaks) (λ p r b. ⊎_elim (leads_all best first p r) (λ here. absurd (none_broken none r here.1)) (breaks_either p r b))
 
     pub first_one : IsUnbroken texts notes → (least : ℕ) → least_rule seen fact ≡ Some least → IsFirstBreach texts (notes ++ note ∷ []) note.token.at least
     first_one unbroken least some =
         let here = least_broken least some in
-        record {
-          breaks = breaks_here least here.0;
-          least_place = λ place rule b. ⊎_elim (λ was. absurd (unbroken place rule was)) (λ h. omega (arith, h.0)) (breaks_either place rule b);
-          least_rule = λ rule b. ⊎_elim (λ was. absurd (unbroken note.token.at rule was)) (λ h. here.1 rule h.1) (breaks_either note.token.at rule b);
-        }
-
-    -- the breach of the note is before the earlier one
-    new_first : (best : Breach) → IsFirstBreach texts notes best.place best.rule → (least : ℕ) → least_rule seen fact ≡ Some least
-        → (note.token.at < best.place) ⊎ ((note.token.at ≡ best.place) × (least < best.rule)) → IsFirstBreach texts (notes ++ note ∷ []) note.token.at least
-    new_first best first least some before =
-        let here = least_broken least some in
-        record {
-          breaks = breaks_here least here.0;
-          least_place = λ place rule b. ⊎_elim (λ was. nearer place (first.least_place place rule was) before) (λ h. omega (arith, h.0)) (breaks_either place rule b);
-          least_rule = λ rule b. ⊎_elim (λ was. lower rule was before) (λ h. here.1 rule h.1) (breaks_either note.token.at rule b);
-        }
-      where
-        nearer : (place : ℕ) → best.place ≤ place → (note.token.at < best.place) ⊎ ((note.token.at ≡ best.place) × (least < best.rule)) → note.token.at ≤ place
-        nearer place h (inl less) = omega arith
-        nearer place h (inr same) = omega (arith, same.0)
-
-        lower : (rule : ℕ) → Breaks texts notes note.token.at rule → (note.token.at < best.place) ⊎ ((note.token.at ≡ best.place) × (least < best.rule)) → least ≤ rule
-        lower rule was (inl less) = absurd (omega (arith, first.least_place note.token.at rule was))
-        lower rule was (inr same) =
-            let more = first.least_rule rule (subst (λ place. Breaks texts notes place rule) same.0 was) in
-            omega (arith, same.1)
-
-    -- the earlier one is not behind it
-    old_first : (best : Breach) → IsFirstBreach texts notes best.place best.rule → (least : ℕ) → least_rule seen fact ≡ Some least
-        → best.place ≤ note.token.at → (note.token.at ≡ best.place → best.rule ≤ least) → IsFirstBreach texts (notes ++ note ∷ []) best.place best.rule
-    old_first best first least some place_before rule_before =
-        let here = least_broken least some in
-        record {
-          breaks = breaks_still best.place best.rule first.breaks;
-          least_place = λ place rule b. ⊎_elim (first.least_place place rule) (λ h. omega (arith, h.0)) (breaks_either place rule b);
-          least_rule = λ rule b. ⊎_elim (first.least_rule rule) (λ h. omega (arith, rule_before (sym h.0), here.1 rule h.1)) (breaks_either best.place rule b);
-        }
+        first_by (at_note least) (breaks_here least here.0) (λ p r b. ⊎_elim (λ was. absurd (unbroken p r was)) (here_leads least here.1 p r) (breaks_either p r b))
 
     pub first_of_two : (best : Breach) → IsFirstBreach texts notes best.place best.rule → (least : ℕ) → least_rule seen fact ≡ Some least → (c : Breach)
-        → ((c ≡ record { place = note.token.at; rule = least }) × Precedes (record { place = note.token.at; rule = least }) best) ⊎ ((c ≡ best) × ¬ Precedes (record { place = note.token.at; rule = least }) best)
-        → IsFirstBreach texts (notes ++ note ∷ []) c.place c.rule
-    first_of_two best first least some c (inl (is, before)) =
-        subst (λ (b : Breach). IsFirstBreach texts (notes ++ note ∷ []) b.place b.rule) (sym is) (new_first best first least some before)
-    first_of_two best first least some c (inr (is, behind)) =
-        let after = comes_behind (record { place = note.token.at; rule = least }) best behind in
-        subst (λ (b : Breach). IsFirstBreach texts (notes ++ note ∷ []) b.place b.rule) (sym is) (old_first best first least some after.0 after.1)
+        → ((c ≡ at_note least) × Precedes (at_note least) best) ⊎ ((c ≡ best) × ¬ Precedes (at_note least) best) → IsFirstBreach texts (notes ++ note ∷ []) c.place c.rule
+    first_of_two best first least some c two = by two where
+      here : Broken notes note least × ((rule : ℕ) → Broken notes note rule → least ≤ rule)
+      here = least_broken least some
+
+      by : ((c ≡ at_note least) × Precedes (at_note least) best) ⊎ ((c ≡ best) × ¬ Precedes (at_note least) best) → IsFirstBreach texts (notes ++ note ∷ []) c.place c.rule
+      by (inl (is, before)) =
+          subst (λ (b : Breach). IsFirstBreach texts (notes ++ note ∷ []) b.place b.rule) (sym is)
+          (first_by (at_note least) (breaks_here least here.0)
+          (λ p r b. ⊎_elim (λ was. leads_on (at_note least) best (record { place = p; rule = r }) before (leads_all best first p r was)) (here_leads least here.1 p r) (breaks_either p r b)))
+      by (inr (is, behind)) =
+          let after = comes_behind (at_note least) best behind in
+          subst (λ (b : Breach). IsFirstBreach texts (notes ++ note ∷ []) b.place b.rule) (sym is)
+          (first_by best (breaks_still best.place best.rule first.breaks)
+          (λ p r b. ⊎_elim (leads_all best first p r) (λ h. (omega (arith, after.0, h.0), λ same. omega (arith, after.1 (same ∙ h.0), here.1 r h.1))) (breaks_either p r b)))

@@ -2,7 +2,6 @@
 -- where it is used is a variable in scope, or its number is the number of a declared name.
 use Rattle.spf_kernel.proofs.Common.{◌≡◌, ℕ, suc, ◌+◌, ◌<◌, Bool, true, false, not, ◌||◌, List, [], ◌∷◌, length, refl, ap, sym, ◌∙◌, true≢false, arith, list_any, bytes_eq, bytes_eq-Decides, Says, Fact, number_of, declares, names_that, name_at, ◌&&◌, Option, None, Some, subst, option_map, unwrap_or, if◌then◌else◌, Spot, Names, names_of, variable_of, is_param, is_table, is_data, takes_data, takes_table, fits, is_in_scope, cond}
 use Rattle.spf_kernel.proofs.Adding.{more}
-use Rattle.spf_kernel.specs.declared.note.Spot.TheVariants as spot_is
 
 -- the number of a name among others
 pub record IsNumberOf (names : List (List ℕ)) (name : List ℕ) (number : ℕ) : Type 0 where
@@ -80,7 +79,7 @@ module _ (facts : List Fact) where
   IsEntry name true = IsNumberOf names.data_arrays name (number_of names.data_arrays name)
   IsEntry name false = IsNumberOf names.tables name (number_of names.tables name)
 
-  pub entry_fits : (variables : List (List ℕ)) (name : List ℕ) → fits facts variables name true spot_is.Factor ≡ true → IsEntry name (declares is_data facts name)
+  pub entry_fits : (variables : List (List ℕ)) (name : List ℕ) → fits facts variables name true Spot.Factor ≡ true → IsEntry name (declares is_data facts name)
   entry_fits variables name fit = by (declares is_data facts name) refl where
     left : (t d : Bool) → t || d ≡ true → d ≡ false → t ≡ true
     left t d fit none = grind arith

@@ -1,11 +1,5 @@
 -- What a kernel means keeps a property, where its index expressions, its names as factors and its targets do.
-use Rattle.spf_kernel.proofs.Common.{◌≡◌, ℕ, true, false, List, [], ◌∷◌, ◌++◌, length, map, flat_map, All, Option, is_some, refl, subst, AllByRecursion, All-from_recursion, split_each, Token, Spot, Note, Scope, RawIx, RawAssign, RawCond, RawGuard, RawPart, RawItem, RawLoop, RawDecl, RawKernel, RawValue, RawValue', Row_of-RawFactor, end_of-RawFactor, more_of-RawFactor, Row_of-RawSummand, end_of-RawSummand, more_of-RawSummand, RawFactor, Paren', end_of-RawValue, more_of-RawValue, Value, Value', roll-Value, out-roll-Value, Row_of-Prod, end_of-Prod, more_of-Prod, items-the_row-Prod, items_shown-the_row-Prod-1, Row_of-Factor, end_of-Factor, more_of-Factor, items-the_row-Factor, items_shown-the_row-Factor-0, Prod, DataDecl, Fact, text_of, variables_in, Names, names_of, number_of, value_notes, facts_notes, summands_notes, fact_notes, subscript_notes, expression_notes, body_notes, bound_notes, head_notes, assign_notes, cond_notes, guard_notes, part_notes, item_notes, cells_notes, decl_notes, factor_at, more_factors, more_prods, factor_of, term_of, assign_of, cond_of, guard_of, part_of, item_of, loop_of, head_of, data_decl_of, decl_of, takes_data, fits, is_data, declares, nothing, within, inside, out-RawAtom, out-Value, Property, KeepsValue, KeepProds, KeepFactors, KeepsFactor, KeepsAssign, KeepsCond, KeepsGuard, KeepsPart, KeepsItem, KeepsLoop, KeepsDecl, loop_notes, kernel_notes, value_of}
-use Rattle.spf_kernel.specs.declared.note.Spot.TheVariants as spot_is
-use Rattle.spf_kernel.specs.declared.raw.RawFactor.TheVariants as raw_factor
-use Rattle.spf_kernel.specs.declared.raw.RawPart.TheVariants as raw_part
-use Rattle.spf_kernel.specs.declared.raw.RawItem.TheVariants as raw_item
-use Rattle.spf_kernel.specs.declared.raw.RawDecl.TheVariants as raw_decl
-use Rattle.spf_kernel.specs.declared.tree.Factor.TheVariants as factor
+use Rattle.spf_kernel.proofs.Common.{Factor, ◌≡◌, ℕ, true, false, List, [], ◌∷◌, ◌++◌, length, map, flat_map, All, Option, is_some, refl, subst, AllByRecursion, All-from_recursion, split_each, Token, Spot, Note, Scope, RawIx, RawAssign, RawCond, RawGuard, RawPart, RawItem, RawLoop, RawDecl, RawKernel, RawValue, RawValue', Row_of-RawFactor, end_of-RawFactor, more_of-RawFactor, Row_of-RawSummand, end_of-RawSummand, more_of-RawSummand, RawFactor, Paren', end_of-RawValue, more_of-RawValue, Value, Value', roll-Value, out-roll-Value, Row_of-Prod, end_of-Prod, more_of-Prod, items-the_row-Prod, items_shown-the_row-Prod-1, Row_of-Factor, end_of-Factor, more_of-Factor, items-the_row-Factor, items_shown-the_row-Factor-0, Prod, DataDecl, Fact, text_of, variables_in, Names, names_of, number_of, value_notes, facts_notes, summands_notes, fact_notes, subscript_notes, expression_notes, body_notes, bound_notes, head_notes, assign_notes, cond_notes, guard_notes, part_notes, item_notes, cells_notes, decl_notes, factor_at, more_factors, more_prods, factor_of, term_of, assign_of, cond_of, guard_of, part_of, item_of, loop_of, head_of, data_decl_of, decl_of, takes_data, fits, is_data, declares, nothing, within, inside, out-RawAtom, out-Value, Property, KeepsValue, KeepProds, KeepFactors, KeepsFactor, KeepsAssign, KeepsCond, KeepsGuard, KeepsPart, KeepsItem, KeepsLoop, KeepsDecl, loop_notes, kernel_notes, value_of}
 use Rattle.spf_kernel.proofs.NamedUses.{IsFitting, AreFitting}
 
 -- ---- values made of lists
@@ -49,8 +43,8 @@ module _ (texts : List (List ℕ)) (facts : List Fact) (p : ℕ → Property) wh
   -- what the property asks of the leaves
   pub record AreKept : Type 0 where
     pub ix : (scope : Scope) (spot : Spot) → takes_data spot ≡ false → (x : RawIx) → AreFitting texts facts (expression_notes spot scope x) → (scoped scope).ix (term_of texts names scope x)
-    pub number : (variables n : ℕ) → (p variables).leaf (factor.Number n)
-    pub name : (scope : Scope) (name : Token) (at : Option RawIx) → fits facts (variables_in texts scope) (text_of texts name) (is_some at) spot_is.Factor ≡ true → AreFitting texts facts (subscript_notes scope at)
+    pub number : (variables n : ℕ) → (p variables).leaf (Factor.Number n)
+    pub name : (scope : Scope) (name : Token) (at : Option RawIx) → fits facts (variables_in texts scope) (text_of texts name) (is_some at) Spot.Factor ≡ true → AreFitting texts facts (subscript_notes scope at)
         → KeepsFactor (scoped scope) (factor_at texts names scope name at)
     pub array : (variables : ℕ) (name : List ℕ) → declares is_data facts name ≡ true → (p variables).array (number_of names.data_arrays name)
 
@@ -75,16 +69,16 @@ module _ (texts : List (List ℕ)) (facts : List Fact) (p : ℕ → Property) wh
             (facts_kept row parts.0, summands_kept others parts.1)
 
         fact_kept : (x : RawFactor) → AreFitting texts facts (fact_notes scope x) → KeepsFactor (scoped scope) (factor_of texts names scope x)
-        fact_kept (raw_factor.Number number) each = leaves.number (length (variables_in texts scope)) number.value
+        fact_kept (RawFactor.Number number) each = leaves.number (length (variables_in texts scope)) number.value
         fact_kept (Paren' shape (more_of-RawValue inside end_of-RawValue)) each =
             let parts = split_each (IsFitting texts facts) (value_notes scope inside) [] each in
             value_kept inside parts.0
-        fact_kept (raw_factor.Name atom) each = leaves.name scope (out-RawAtom atom).name (out-RawAtom atom).at each.1.0 each.1.1
+        fact_kept (RawFactor.Name atom) each = leaves.name scope (out-RawAtom atom).name (out-RawAtom atom).at each.1.0 each.1.1
 
       -- ---- statements
 
       ix_kept : (x : RawIx) → AreFitting texts facts (body_notes scope x) → (scoped scope).ix (term_of texts names scope x)
-      ix_kept = leaves.ix scope spot_is.Body refl
+      ix_kept = leaves.ix scope Spot.Body refl
 
       assign_kept : (x : RawAssign) → AreFitting texts facts (assign_notes scope x) → KeepsAssign (scoped scope) (assign_of texts names scope x)
       assign_kept x each =
@@ -105,15 +99,15 @@ module _ (texts : List (List ℕ)) (facts : List Fact) (p : ℕ → Property) wh
           }
 
       part_kept : (x : RawPart) → AreFitting texts facts (part_notes scope x) → KeepsPart (scoped scope) (part_of texts names scope x)
-      part_kept (raw_part.Assign x) each = assign_kept x each
-      part_kept (raw_part.Guard x) each = guard_kept x each
+      part_kept (RawPart.Assign x) each = assign_kept x each
+      part_kept (RawPart.Guard x) each = guard_kept x each
 
     -- ---- loops
 
     item_kept : (outer : Token) (x : RawItem) → AreFitting texts facts (item_notes outer x) → KeepsItem p (item_of texts names outer x)
-    item_kept outer (raw_item.Part (raw_part.Assign x)) each = assign_kept (within outer) x each
-    item_kept outer (raw_item.Part (raw_part.Guard x)) each = guard_kept (within outer) x each
-    item_kept outer (raw_item.Inner range parts) each =
+    item_kept outer (RawItem.Part (RawPart.Assign x)) each = assign_kept (within outer) x each
+    item_kept outer (RawItem.Part (RawPart.Guard x)) each = guard_kept (within outer) x each
+    item_kept outer (RawItem.Inner range parts) each =
         let scope = inside outer range.var in
         let split = split_each (IsFitting texts facts) (body_notes (within outer) range.low ++ body_notes (within outer) range.high) (flat_map (part_notes scope) parts) each.1 in
         let bounds = split_each (IsFitting texts facts) (body_notes (within outer) range.low) (body_notes (within outer) range.high) split.0 in (
@@ -123,7 +117,7 @@ module _ (texts : List (List ℕ)) (facts : List Fact) (p : ℕ → Property) wh
         )
 
     bound_kept : (x : RawIx) → AreFitting texts facts (bound_notes x) → (p 0).ix (head_of texts names x)
-    bound_kept = leaves.ix nothing spot_is.Bound refl
+    bound_kept = leaves.ix nothing Spot.Bound refl
 
     pub loop_kept : (x : RawLoop) → AreFitting texts facts (loop_notes x) → KeepsLoop p (loop_of texts names x)
     unfolding loop_notes
@@ -140,15 +134,15 @@ module _ (texts : List (List ℕ)) (facts : List Fact) (p : ℕ → Property) wh
     -- ---- declarations
 
     pub head_kept : (x : RawIx) → AreFitting texts facts (head_notes x) → (p 0).ix (head_of texts names x)
-    head_kept = leaves.ix nothing spot_is.Head refl
+    head_kept = leaves.ix nothing Spot.Head refl
 
     decl_kept : (x : RawDecl) → AreFitting texts facts (decl_notes x) → KeepsDecl p (decl_of texts names x)
-    decl_kept (raw_decl.Params _) each = tt
-    decl_kept (raw_decl.Index array low high trend) each =
+    decl_kept (RawDecl.Params _) each = tt
+    decl_kept (RawDecl.Index array low high trend) each =
         let split = split_each (IsFitting texts facts) (head_notes array.size ++ head_notes low) (head_notes high) each.1 in
         let front = split_each (IsFitting texts facts) (head_notes array.size) (head_notes low) split.0 in
         (head_kept array.size front.0, head_kept low front.1, head_kept high split.1)
-    decl_kept (raw_decl.Values arrays) each =
+    decl_kept (RawDecl.Values arrays) each =
         each_kept (λ (array : DataDecl). (p 0).ix array.size) cells_notes (data_decl_of texts names) (λ x cells. head_kept x.size cells.1) arrays each
 
     -- ---- the parts of a kernel

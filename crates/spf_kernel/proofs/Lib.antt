@@ -1,12 +1,9 @@
 pub mod Adding
 pub mod BodySites
 pub mod Bounded
-pub mod Clear
 pub mod Common
 pub mod Declared
 pub mod Depths
-pub mod FewSites
-pub mod FewestPieces
 pub mod FirstBreach
 pub mod FittingNames
 pub mod GivenNames
@@ -19,7 +16,6 @@ pub mod NamesAreWords
 pub mod Naming
 pub mod NoteCounts
 pub mod NoteEquations
-pub mod NothingNamed
 pub mod OneKernel
 pub mod Parsing
 pub mod Pieces
@@ -27,7 +23,6 @@ pub mod PrintEquations
 pub mod PrintedConstants
 pub mod PrintedParses
 pub mod Signs
-pub mod SiteCounts
 pub mod SiteSums
 pub mod TermEquations
 pub mod TokenLeaves

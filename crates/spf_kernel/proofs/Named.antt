@@ -1,8 +1,5 @@
 -- Where no rule is broken, each number in the tree that a kernel means names something.
-use Rattle.spf_kernel.proofs.Common.{◌≡◌, ℕ, ◌<◌, Bool, true, false, List, [], length, Option, None, Some, is_some, refl, subst, ℤ, if◌then◌else◌, AllByRecursion, split_each, join_each, Term, Term', roll-Term, out-roll-Term, Row_of-Mono, end_of-Mono, more_of-Mono, items-the_row-Mono, items_shown-the_row-Mono-0, Mono, Token, Spot, Scope, RawIx, RawIx', Row_of-RawStep, end_of-RawStep, more_of-RawStep, RawMono, Number', RawMono-Number-1-None', RawMono-Number-1-Some', RawAtom, RawAtom', RawAtom-at-None', RawAtom-at-Some', end_of-RawIx, more_of-RawIx, RawValue, RawValue', Row_of-RawFactor, end_of-RawFactor, more_of-RawFactor, Row_of-RawSummand, end_of-RawSummand, more_of-RawSummand, RawFactor, Paren', end_of-RawValue, more_of-RawValue, Value, Value', roll-Value, out-roll-Value, Row_of-Prod, end_of-Prod, more_of-Prod, items-the_row-Prod, items_shown-the_row-Prod-1, Row_of-Factor, end_of-Factor, more_of-Factor, items-the_row-Factor, items_shown-the_row-Factor-0, Prod, Fact, text_of, variables_in, NameCounts, IsNamedTerm, Names, names_of, ix_notes, steps_notes, mono_notes, atom_notes, value_notes, facts_notes, summands_notes, fact_notes, subscript_notes, excess_notes, expression_notes, ix_monomials, monomial_limit, number_notes, constant_of, variable_of, table_of, data_array_of, is_data_array, bare_atom, bare_factor, term_of, more_monos, monos_of, atom_of, factor_at, more_factors, more_prods, factor_of, takes_data, fits, inside, sym, RawKernel, Tree, facts_of, IsParsed, loop_of, tree_of, IsUnbroken, is_data, wrap, out-Term, KeepsFactor, KeepsLoop, loop_notes, kernel_notes}
-use Rattle.spf_kernel.specs.declared.note.Spot.TheVariants as spot_is
-use Rattle.spf_kernel.specs.declared.raw.RawMono as raw_mono
-use Rattle.spf_kernel.specs.declared.tree.Factor.TheVariants as factor
+use Rattle.spf_kernel.proofs.Common.{Factor, ◌≡◌, ℕ, ◌<◌, Bool, true, false, List, [], length, Option, None, Some, is_some, refl, subst, ℤ, if◌then◌else◌, AllByRecursion, split_each, join_each, Term, Term', roll-Term, out-roll-Term, Row_of-Mono, end_of-Mono, more_of-Mono, items-the_row-Mono, items_shown-the_row-Mono-0, Mono, Token, Spot, Scope, RawIx, RawIx', Row_of-RawStep, end_of-RawStep, more_of-RawStep, RawMono, Number', RawMono-Number-1-None', RawMono-Number-1-Some', RawAtom, RawAtom', RawAtom-at-None', RawAtom-at-Some', end_of-RawIx, more_of-RawIx, Fact, text_of, variables_in, NameCounts, IsNamedTerm, Names, names_of, ix_notes, steps_notes, mono_notes, atom_notes, subscript_notes, excess_notes, expression_notes, ix_monomials, monomial_limit, number_notes, constant_of, variable_of, table_of, data_array_of, is_data_array, bare_atom, bare_factor, term_of, more_monos, monos_of, atom_of, factor_at, takes_data, fits, sym, RawKernel, Tree, facts_of, IsParsed, loop_of, tree_of, IsUnbroken, is_data, wrap, out-Term, KeepsFactor, KeepsLoop, loop_notes, kernel_notes}
 use Rattle.spf_kernel.specs.Named.{AreNamedMonos, IsNamedAtom, named, counts_in, IsNamed, IsNamedTree}
 use Rattle.spf_kernel.proofs.FittingNames.{IsBare, bare_fits, table_fits, IsEntry, entry_fits, variable_named, number_declared}
 use Rattle.spf_kernel.proofs.NamedUses.{AreFitting, IsFitting, all_fit}
@@ -74,7 +71,7 @@ module _ (texts : List (List ℕ)) (facts : List Fact) (scope : Scope) where
       mono_named : (minus : Bool) (x : RawMono) → AreFitting texts facts (mono_notes spot scope x) → AllByRecursion (IsNamedMono counts variables) (monos_of texts names scope minus x)
       mono_named minus (Number' number RawMono-Number-1-None') each = tt
       mono_named minus (Number' number (RawMono-Number-1-Some' atom)) each = (atom_named atom (split_each (IsFitting texts facts) (number_notes true number) (atom_notes spot scope atom) each).1, tt)
-      mono_named minus (raw_mono.Atom atom) each = (atom_named atom each, tt)
+      mono_named minus (RawMono.Atom atom) each = (atom_named atom each, tt)
 
       atom_named : (x : RawAtom) → AreFitting texts facts (atom_notes spot scope x) → IsNamedAtom counts variables (atom_of texts names scope x)
       atom_named (RawAtom' name RawAtom-at-None') each = atom_bare name (variable_of (variables_in texts scope) (text_of texts name)) (bare spot name each.0)
@@ -88,13 +85,13 @@ module _ (texts : List (List ℕ)) (facts : List Fact) (scope : Scope) where
   -- ---- values
 
   -- a name, and what stands in the brackets behind it
-  pub at_named : (name : Token) (at : Option RawIx) → fits facts (variables_in texts scope) (text_of texts name) (is_some at) spot_is.Factor ≡ true → AreFitting texts facts (subscript_notes scope at) → KeepsFactor (named counts variables) (factor_at texts names scope name at)
-  at_named name None fit each = factor_bare name (variable_of (variables_in texts scope) (text_of texts name)) (bare spot_is.Factor name fit)
+  pub at_named : (name : Token) (at : Option RawIx) → fits facts (variables_in texts scope) (text_of texts name) (is_some at) Spot.Factor ≡ true → AreFitting texts facts (subscript_notes scope at) → KeepsFactor (named counts variables) (factor_at texts names scope name at)
+  at_named name None fit each = factor_bare name (variable_of (variables_in texts scope) (text_of texts name)) (bare Spot.Factor name fit)
   at_named name (Some ix) fit each = by (is_data_array texts names name) (entry_fits facts (variables_in texts scope) (text_of texts name) fit) where
     by : (b : Bool) → IsEntry facts (text_of texts name) b
-        → KeepsFactor (named counts variables) (if b then factor.Cell (data_array_of texts names name) (term_of texts names scope ix) else factor.Index (table_of texts names name) (term_of texts names scope ix))
-    by true number = (number.below, expression_named spot_is.Body refl ix each)
-    by false number = (number.below, expression_named spot_is.Body refl ix each)
+        → KeepsFactor (named counts variables) (if b then Factor.Cell (data_array_of texts names name) (term_of texts names scope ix) else Factor.Index (table_of texts names name) (term_of texts names scope ix))
+    by true number = (number.below, expression_named Spot.Body refl ix each)
+    by false number = (number.below, expression_named Spot.Body refl ix each)
 
 -- ---- trees
 

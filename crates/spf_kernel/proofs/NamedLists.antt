@@ -1,10 +1,7 @@
 -- The names that the declarations of a tree give are those that its notes declare.
 use Rattle.spf_kernel.proofs.Common.{◌≡◌, ℕ, Bool, true, false, List, [], ◌∷◌, ◌++◌, map, filter, flat_map, refl, ap, sym, ◌∙◌, append-nil, true≢false, ⊎_elim, if◌then◌else◌, map-append, Token, RawSized, RawItem, RawLoop, RawDecl, RawKernel, Note, Says, Declared, Variable, Decl, DataDecl, Fact, fact_of, facts_of, text_of, Names, note, decl_of, data_decl_of, is_param, is_table, is_data, is_naming, names_that, nothing, within, arrays_of, Params, Index, Values, Sort, kernel_notes, params_of, tables_of}
-use Rattle.spf_kernel.specs.declared.raw.RawItem.TheVariants.{Part, Inner}
-use Rattle.spf_kernel.specs.declared.note.Sort.TheVariants as sort_is
 use Rattle.spf_kernel.proofs.Adding.{names_append}
-use Rattle.spf_kernel.proofs.GivenNames.{decl_given, item_given, loop_given, kernel_giving}
-use Rattle.spf_kernel.proofs.NothingNamed.{giving}
+use Rattle.spf_kernel.proofs.GivenNames.{decl_given, item_given, loop_given, kernel_giving, giving}
 use Rattle.spf_kernel.proofs.Unbroken.{naming}
 
 module _ (texts : List (List ℕ)) (test : Says → Bool) where
@@ -33,7 +30,7 @@ module _ (texts : List (List ℕ)) (test : Says → Bool) where
 
   -- where declarations give these names in this role, and no loop and no variable has it, so does a kernel
   module _ (names : Names) (part : Decl → List (List ℕ)) (none : (says : Says) → is_naming says ≡ false → test says ≡ false) (each : (x : RawDecl) → found (decl_given x) ≡ part (decl_of texts names x))
-      (loop : test (Declared sort_is.Loop) ≡ false) (variable : test Variable ≡ false) where
+      (loop : test (Declared Sort.Loop) ≡ false) (variable : test Variable ≡ false) where
     found_giving : (notes : List Note) → found notes ≡ found (giving notes)
     found_giving [] = refl
     found_giving (n ∷ notes) = by (is_naming n.says) refl (found_giving notes) where
@@ -47,8 +44,8 @@ module _ (texts : List (List ℕ)) (test : Says → Bool) where
 
     items_found : (outer : Token) (xs : List RawItem) → found (flat_map (item_given outer) xs) ≡ []
     items_found outer [] = refl
-    items_found outer (Part part ∷ xs) = items_found outer xs
-    items_found outer (Inner range parts ∷ xs) = led (note range.var Variable (within outer)) (flat_map (item_given outer) xs) variable ∙ items_found outer xs
+    items_found outer (RawItem.Part part ∷ xs) = items_found outer xs
+    items_found outer (RawItem.Inner range parts ∷ xs) = led (note range.var Variable (within outer)) (flat_map (item_given outer) xs) variable ∙ items_found outer xs
 
     loops_found : (xs : List RawLoop) → found (flat_map loop_given xs) ≡ []
     loops_found [] = refl
@@ -56,7 +53,7 @@ module _ (texts : List (List ℕ)) (test : Says → Bool) where
         let items = flat_map (item_given x.range.var) x.items in
         let var = note x.range.var Variable nothing in
         found_append (loop_given x) (flat_map loop_given xs)
-        ∙ (λ i. (led (note x.name (Declared sort_is.Loop) nothing) (var ∷ items) loop ∙ led var items variable ∙ items_found x.range.var x.items) i ++ loops_found xs i)
+        ∙ (λ i. (led (note x.name (Declared Sort.Loop) nothing) (var ∷ items) loop ∙ led var items variable ∙ items_found x.range.var x.items) i ++ loops_found xs i)
 
     kernel_found : (x : RawKernel) → found (kernel_notes x) ≡ flat_map part (map (decl_of texts names) x.decls)
     kernel_found x =
@@ -74,23 +71,23 @@ module _ (texts : List (List ℕ)) (names : Names) where
   name_of array = array.name
 
   params_each : (x : RawDecl) → names_that is_param (facts_of texts (decl_given x)) ≡ params_of (decl_of texts names x)
-  params_each (Params params) = marked texts is_param sort_is.Param (λ (token : Token). token) refl params
+  params_each (Params params) = marked texts is_param Sort.Param (λ (token : Token). token) refl params
   params_each (Index array low high trend) = refl
-  params_each (Values arrays) = unmarked texts is_param sort_is.Data name_of refl arrays
+  params_each (Values arrays) = unmarked texts is_param Sort.Data name_of refl arrays
 
   tables_each : (x : RawDecl) → names_that is_table (facts_of texts (decl_given x)) ≡ tables_of (decl_of texts names x)
-  tables_each (Params params) = unmarked texts is_table sort_is.Param (λ (token : Token). token) refl params
+  tables_each (Params params) = unmarked texts is_table Sort.Param (λ (token : Token). token) refl params
   tables_each (Index array low high trend) = refl
-  tables_each (Values arrays) = unmarked texts is_table sort_is.Data name_of refl arrays
+  tables_each (Values arrays) = unmarked texts is_table Sort.Data name_of refl arrays
 
   their_names : (xs : List RawSized) → map (λ (array : RawSized). text_of texts array.name) xs ≡ map (λ (array : DataDecl). array.name) (map (data_decl_of texts names) xs)
   their_names [] = refl
   their_names (x ∷ xs) = ap (λ (ns : List (List ℕ)). text_of texts x.name ∷ ns) (their_names xs)
 
   arrays_each : (x : RawDecl) → names_that is_data (facts_of texts (decl_given x)) ≡ arrays_of (decl_of texts names x)
-  arrays_each (Params params) = unmarked texts is_data sort_is.Param (λ (token : Token). token) refl params
+  arrays_each (Params params) = unmarked texts is_data Sort.Param (λ (token : Token). token) refl params
   arrays_each (Index array low high trend) = refl
-  arrays_each (Values arrays) = marked texts is_data sort_is.Data name_of refl arrays ∙ their_names arrays
+  arrays_each (Values arrays) = marked texts is_data Sort.Data name_of refl arrays ∙ their_names arrays
 
   module _ (raw : RawKernel) where
     pub params_found : names_that is_param (facts_of texts (kernel_notes raw)) ≡ flat_map params_of (map (decl_of texts names) raw.decls)

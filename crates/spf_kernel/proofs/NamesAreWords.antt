@@ -1,10 +1,8 @@
 -- The names that a kernel declares are words.
 use Rattle.spf_kernel.proofs.Common.{◌≡◌, ℕ, List, [], ◌∷◌, ◌++◌, drop, get_or, map, flat_map, All, refl, inl, inr, AllByRecursion, IsName, bundle_words, same_kind, Lexed, many, token, IsTokenText, Token, Kind, join_each, standing_leaves, RawItem, RawLoop, RawRange, RawSized, RawDecl, RawKernel, Note, Declared, note, text_of, IsKernel, is_naming, tokens_that, nothing, All-cons, All-nil, lexed, tokens_of, separated, Leaves, Sort, kernel_notes, decl, index, inner, item, kernel, one_loop, params, range, sized, values}
-use Rattle.spf_lex.specs.declared.kind.Kind.TheVariants as kind
 use Rattle.spf_lex.proofs.Makes.{Makes, many_makes, separated_makes}
 use Rattle.spf_lex.proofs.NamedTokens.{name_text}
-use Rattle.spf_kernel.specs.declared.note.Sort.TheVariants as sort_is
-use Rattle.spf_kernel.proofs.Clear.{kinds_exact}
+use Rattle.spf_kernel.proofs.OneKernel.{kinds_exact}
 use Rattle.spf_kernel.proofs.GivenNames.{decl_given, item_given, loop_given, kernel_given, kernel_giving}
 
 module _ (texts : List (List ℕ)) where
@@ -13,12 +11,12 @@ module _ (texts : List (List ℕ)) where
 
   -- the token is a word, where the grammar wants a name
   abbrev IsWordAt : Kind → Lexed Kind → Type 0
-  IsWordAt k lexed = k ≡ kind.Name → IsTextName lexed.token
+  IsWordAt k lexed = k ≡ Kind.Name → IsTextName lexed.token
 
   pub token_is_word : (at : ℕ) (text : List ℕ) → get_or texts at [] ≡ text → IsTokenText text → IsWordAt (lexed bundle_words at text).kind (lexed bundle_words at text)
   unfolding lexed
   token_is_word at text there is_token e =
-      rw there (name_text same_kind kinds_exact bundle_words refl at text is_token ((kinds_exact (lexed bundle_words at text).kind kind.Name).1 e))
+      rw there (name_text same_kind kinds_exact bundle_words refl at text is_token ((kinds_exact (lexed bundle_words at text).kind Kind.Name).1 e))
 
   -- ---- what a derivation names
 
@@ -38,7 +36,7 @@ module _ (texts : List (List ℕ)) where
   marked_words sort token [] each = tt
   marked_words sort token (x ∷ xs) each = (each.0, marked_words sort token xs each.1)
 
-  name_made : Makes {same = same_kind} IsWordAt IsTextName (token kind.Name)
+  name_made : Makes {same = same_kind} IsWordAt IsTextName (token Kind.Name)
   unfolding Leaves
   name_made d leaves = leaves refl
 
@@ -52,11 +50,11 @@ module _ (texts : List (List ℕ)) where
   decl_made : Makes IsWordAt (λ (x : RawDecl). AreOfWords (decl_given x)) decl
   unfolding Leaves decl params index values
   decl_made (inl d) leaves =
-      let name = token {same = same_kind} kind.Name in
-      marked_words sort_is.Param (λ (token : Token). token) ((separated kind.Comma name).make d.1.0) (separated_makes IsWordAt IsTextName kind.Comma name name_made d.1.0 leaves.1.0)
+      let name = token {same = same_kind} Kind.Name in
+      marked_words Sort.Param (λ (token : Token). token) ((separated Kind.Comma name).make d.1.0) (separated_makes IsWordAt IsTextName Kind.Comma name name_made d.1.0 leaves.1.0)
   decl_made (inr (inl d)) leaves = (sized_made d.1.0 leaves.1.0, tt)
   decl_made (inr (inr d)) leaves =
-      marked_words sort_is.Data (λ (array : RawSized). array.name) ((separated kind.Comma sized).make d.1.0) (separated_makes IsWordAt IsSizedName kind.Comma sized sized_made d.1.0 leaves.1.0)
+      marked_words Sort.Data (λ (array : RawSized). array.name) ((separated Kind.Comma sized).make d.1.0) (separated_makes IsWordAt IsSizedName Kind.Comma sized sized_made d.1.0 leaves.1.0)
 
   range_made : Makes IsWordAt (λ (x : RawRange). IsTextName x.var) range
   unfolding Leaves range

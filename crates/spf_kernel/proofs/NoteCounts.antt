@@ -8,6 +8,9 @@ module _ (test : Says → Bool) where
   pub both : (xs ys : List Note) → notes_that (xs ++ ys) ≡ notes_that xs + notes_that ys
   both = sum_by-append (λ (x : Note). cond (test x.says) 1 0)
 
+  pub join : {m n : ℕ} (xs ys : List Note) → m ≤ notes_that xs → n ≤ notes_that ys → m + n ≤ notes_that (xs ++ ys)
+  join xs ys few more = omega (arith, both xs ys, few, more)
+
   pub behind : (first : Note) (others : List Note) → notes_that others ≤ notes_that (first ∷ others)
   behind first others = omega (arith, sum_by-cons (λ (x : Note). cond (test x.says) 1 0) first others)
 

@@ -1,6 +1,5 @@
 -- What `parse` answers, put together of what its steps answer.
-use Rattle.spf_kernel.proofs.Common.{◌≡◌, ℕ, Ok, Err, ap, ◌∙◌, Place, Tokenized, texts, each_text, RawKernel, Tree, Checked, Names, ParsesTo, IsParsed, tree_of, AreNames, StandsAt, IsTokenized, kernel_notes, IsRuleFault, IsVerdict}
-use Rattle.spf_kernel.specs.declared.fault.Unkept.TheVariants.{Rule}
+use Rattle.spf_kernel.proofs.Common.{Unkept, ◌≡◌, ℕ, Ok, Err, ap, ◌∙◌, Place, Tokenized, texts, each_text, RawKernel, Tree, Checked, Names, ParsesTo, IsParsed, tree_of, AreNames, StandsAt, IsTokenized, kernel_notes, IsRuleFault, IsVerdict}
 use Rattle.spf_kernel.proofs.NamesAreWords.{names_are_words}
 
 pub kept : (tokens : Tokenized) (raw : RawKernel) (names : Names) (tree : Tree) → Checked (texts tokens) (kernel_notes raw) (Ok names) → tree ≡ tree_of (texts tokens) names raw → IsVerdict tokens raw (Ok tree)
@@ -16,5 +15,5 @@ module _ (tokens : Tokenized) (from next : ℕ) (raw : RawKernel) (stands : Stan
   pub is_parsed : (names : Names) (tree : Tree) → IsTokenized tokens.text tokens.spans → Checked (texts tokens) (kernel_notes raw) (Ok names) → tree ≡ tree_of (texts tokens) names raw → IsParsed tree
   is_parsed names tree lexed checked means = record { tokens = tokens; lexed = lexed; from = from; next = next; parses = parses tree (kept tokens raw names tree checked means) }
 
-  pub rule_fault : (place : Place) (rule : ℕ) → IsVerdict tokens raw (Err (Rule place rule)) → IsRuleFault tokens from place rule next
+  pub rule_fault : (place : Place) (rule : ℕ) → IsVerdict tokens raw (Err (Unkept.Rule place rule)) → IsRuleFault tokens from place rule next
   rule_fault place rule verdict = record { raw = raw; stands = stands; at = verdict.0; breach = verdict.1; place_is = verdict.2 }

@@ -1,5 +1,5 @@
--- A constant of an index expression is printed as few numbers whose sum it is.
-use Rattle.spf_kernel.proofs.Common.{◌≡◌, ℕ, ℤ, pos, ◌+ℤ◌, ◌+◌, ◌*◌, ◌/◌, ◌%◌, ◌<◌, ◌≤◌, ◌^◌, suc, zero, Bool, true, false, List, [], ◌∷◌, length, replicate, unsigned_abs, refl, sym, ◌∙◌, arith, w64, true≢false, length-append, ◌==◌, if◌then◌else◌, is_negative, AllByRecursion, ints, nat_tests, sum_by-append, sum_by-cons, join_each, limit, pieces, fits, negsuc, sum, int_wrap_fits, fits_signed_from_abs, length-replicate, sum_by-replicate, wrap, signed}
+-- A constant of an index expression is printed as few numbers whose sum it is, and no fewer would do.
+use Rattle.spf_kernel.proofs.Common.{◌≡◌, ℕ, ℤ, pos, ◌+ℤ◌, ◌+◌, ◌*◌, ◌/◌, ◌%◌, ◌<◌, ◌≤◌, ◌^◌, suc, zero, Bool, true, false, List, [], ◌∷◌, length, replicate, unsigned_abs, refl, sym, ◌∙◌, arith, w64, true≢false, length-append, ◌==◌, if◌then◌else◌, is_negative, AllByRecursion, ints, nat_tests, sum_by-append, sum_by-cons, join_each, limit, pieces, fits, negsuc, sum, int_wrap_fits, fits_signed_from_abs, length-replicate, sum_by-replicate, wrap, signed, ◌-◌, nat_lt, min, ◌++◌, All, All-from_recursion, recursion_from_All}
 use Rattle.std.proofs.lemmas.Nat.{div-add-mod'}
 use Rattle.spf_base.proofs.Wraps.{IsWrap-wrap, wrap_only}
 
@@ -78,3 +78,43 @@ pub pieces_few : (n k : ℕ) → n ≤ k * limit → length (pieces n) ≤ k
 pieces_few n k fits =
     let few = left_few (n % limit == 0) (n % limit) (n / limit) k refl (omega (arith, div-add-mod' n limit)) in
     omega (arith, length-append (replicate (n / limit) limit) (left_over (n % limit == 0) (n % limit)), length-replicate (n / limit) limit, few)
+
+pub pieces_within : (n : ℕ) → All (λ piece. piece ≤ limit) (pieces n)
+pieces_within n = All-from_recursion IsPiece (pieces n) (pieces_small n)
+
+sum_within : (ns : List ℕ) → AllByRecursion IsPiece ns → sum ns ≤ length ns * limit
+sum_within [] each = omega arith
+sum_within (n ∷ ns) each = omega (arith, first_sum n ns, each.0, sum_within ns each.1)
+
+pub pieces_fewest : (ns : List ℕ) → All (λ number. number ≤ limit) ns → length (pieces (sum ns)) ≤ length ns
+pieces_fewest ns each = pieces_few (sum ns) (length ns) (sum_within ns (recursion_from_All IsPiece ns each))
+
+-- so many of the largest pieces, and one of what is left
+abbrev parts : ℕ → ℕ → List ℕ
+parts largest left = replicate largest limit ++ (if left == 0 then [] else left ∷ [])
+
+none_or_one : (none : Bool) (n : ℕ) → (n == 0) ≡ none → 0 < n → (if none then [] else n ∷ []) ≡ n ∷ []
+none_or_one true n e some = absurd (grind (arith, nat_tests))
+none_or_one false n e some = refl
+
+one_piece : (n : ℕ) → 0 < n → n < limit → min n limit ∷ pieces (n - limit) ≡ pieces n
+one_piece n some small =
+    let first : min n limit ≡ n = omega arith in
+    let rest : n - limit ≡ 0 = omega arith in
+    let largest : n / limit ≡ 0 = omega arith in
+    let left : n % limit ≡ n = omega arith in
+    (λ i. first i ∷ pieces (rest i)) ∙ (sym (none_or_one (n == 0) n refl some) ∙ (λ i. parts (sym largest i) (sym left i)))
+
+more_pieces : (n : ℕ) → limit ≤ n → min n limit ∷ pieces (n - limit) ≡ pieces n
+more_pieces n large =
+    let first : min n limit ≡ limit = omega arith in
+    let largest : n / limit ≡ suc ((n - limit) / limit) = omega arith in
+    let left : n % limit ≡ (n - limit) % limit = omega arith in
+    (λ i. first i ∷ pieces (n - limit)) ∙ (λ i. parts (sym largest i) (sym left i))
+
+-- a first piece in front of those of the rest
+pub pieces_alone : (n : ℕ) → 0 < n → min n limit ∷ pieces (n - limit) ≡ pieces n
+pieces_alone n some = by (nat_lt n limit) refl where
+  by : (b : Bool) → nat_lt n limit ≡ b → min n limit ∷ pieces (n - limit) ≡ pieces n
+  by true e = one_piece n some (grind (arith, nat_tests))
+  by false e = more_pieces n (grind (arith, nat_tests))

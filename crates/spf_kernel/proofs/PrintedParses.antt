@@ -1,6 +1,5 @@
 -- The words of a tree that some text is parsed to are parsed to it.
-use Rattle.spf_kernel.proofs.Common.{◌≡◌, ℕ, List, [], length, refl, sym, ap, ◌∙◌, subst, All-from_recursion, bundle_words, Derivation, joined, Lexed, Tokenized, IsTokenText, texts, Kind, in_words, each_text, standing_leaves, Note, RawKernel, Tree, IsKernel, Names, names_of, IsParsed, IsTextOf, ParsesTo, meaning, words_of, tree_of, IsUnbroken, Leaves, holds_all, kernel_notes, kernel}
-use Rattle.spf_lex.specs.declared.token_list.Span.{Span}
+use Rattle.spf_kernel.proofs.Common.{Span, ◌≡◌, ℕ, List, [], length, refl, sym, ap, ◌∙◌, subst, All-from_recursion, bundle_words, Derivation, joined, Lexed, Tokenized, IsTokenText, texts, Kind, in_words, each_text, standing_leaves, Note, RawKernel, Tree, IsKernel, Names, names_of, IsParsed, IsTextOf, ParsesTo, meaning, words_of, tree_of, IsUnbroken, Leaves, holds_all, kernel_notes, kernel}
 use Rattle.spf_lex.proofs.Joining.{joined_tokens}
 use Rattle.spf_lex.proofs.PrintedTexts.{stands_printed}
 use Rattle.spf_kernel.proofs.NamedUses.{all_fit}

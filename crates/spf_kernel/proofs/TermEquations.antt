@@ -1,8 +1,6 @@
 -- Terms and values, told of the parts of the raw tree as lists.
 use Rattle.spf_kernel.proofs.Common.{◌≡◌, ℕ, List, ◌++◌, flat_map, Option, None, Some, is_some, refl, ap, ◌∙◌, sym, Term, roll-Term, Mono, Token, Scope, RawIx, RawIx', Row_of-RawStep, end_of-RawStep, more_of-RawStep, items-the_row-RawStep, items_shown-the_row-RawStep-1, RawStep, RawAtom, RawAtom', end_of-RawIx, more_of-RawIx, RawAtom-at-None', RawAtom-at-Some', text_of, variables_in, Names, constant_of, variable_of, table_of, bare_atom, term_of, more_monos, monos_of, atom_of, ◌∷◌, map, RawValue, RawValue', Row_of-RawFactor, end_of-RawFactor, more_of-RawFactor, items-the_row-RawFactor, items_shown-the_row-RawFactor-1, Row_of-RawSummand, end_of-RawSummand, more_of-RawSummand, items-the_row-RawSummand, items_shown-the_row-RawSummand-2, RawSummand, roll-Value, Prod, Factor, product, more_factors, more_prods, factor_of, inside, wrap, Atom, out-RawIx, out-RawAtom, out-RawValue, value_of}
-use Rattle.spf_term.specs.declared.term.Atom.TheVariants as atom
 use Rattle.spf_kernel.specs.declared.raw.RawFactor.{Paren}
-use Rattle.spf_kernel.specs.declared.tree.Factor.TheVariants as factor
 
 module _ (texts : List (List ℕ)) (names : Names) (scope : Scope) where
   abbrev pub step_monos : RawStep → List Mono
@@ -22,7 +20,7 @@ module _ (texts : List (List ℕ)) (names : Names) (scope : Scope) where
   -- a name with what stands in the brackets behind it
   abbrev pub atom_at : Token → Option RawIx → Atom
   atom_at name None = bare_atom texts names (variable_of (variables_in texts scope) (text_of texts name)) name
-  atom_at name (Some ix) = atom.App (table_of texts names name) (term_of texts names scope ix)
+  atom_at name (Some ix) = Atom.App (table_of texts names name) (term_of texts names scope ix)
 
   pub atom_is_at : (atom : RawAtom) → atom_of texts names scope atom ≡ atom_at (out-RawAtom atom).name (out-RawAtom atom).at
   unfolding out-RawAtom denote.Hole.Carrier.out Rattle.spf_kernel.specs.declared.raw.RawMono.TheBlock.shown-the_row-RawIx-0 denote.Hole.Carrier.shown
@@ -49,6 +47,6 @@ module _ (texts : List (List ℕ)) (names : Names) (scope : Scope) where
       ap (λ (prods : List Prod). roll-Value (record { prods = prods })) (prods_are summands ∙ ap (map summand_of) (sym (items_shown-the_row-RawSummand-2 shape summands)))
 
   -- a value in parentheses
-  pub paren_is : (inside : RawValue) → factor_of texts names scope (Paren inside) ≡ factor.Paren (value_of texts names scope inside)
+  pub paren_is : (inside : RawValue) → factor_of texts names scope (Paren inside) ≡ Factor.Paren (value_of texts names scope inside)
   unfolding Rattle.spf_kernel.specs.declared.raw.RawFactor.TheBlock.hidden-the_row-RawValue-0 denote.Hole.Carrier.hidden
   paren_is inside = refl

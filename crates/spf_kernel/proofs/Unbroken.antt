@@ -1,6 +1,5 @@
 -- Where no rule is broken, each fact keeps each rule behind those before: the declared names are apart, and at most 64 of a sort.
-use Rattle.spf_kernel.proofs.Common.{◌≡◌, ℕ, ◌+◌, ◌≤◌, ◌<◌, get_or, Bool, true, false, nat_le, ◌||◌, ◌&&◌, List, [], ◌∷◌, ◌++◌, length, filter, take, slice_get, Option, Some, refl, ap, sym, ◌∙◌, true≢false, append_assoc, append-nil, subst, ◌⊎◌, inl, inr, ⊎_elim, arith, ⊤, nat_tests, length-map, map-append, map_push, take_all, take_more, bytes_eq, insert_key, Before, Note, Says, Declared, Variable, Breach, IsFirst, Fact, fact_of, facts_of, names_of, IsUnbroken, count_that, is_data, is_in_scope, is_loop, is_naming, is_param, is_site, is_table, names_that, is_known, declares, cond, false_from_ne_true, length-filter, before_of, once, IsShort}
-use Rattle.spf_kernel.specs.declared.note.Sort.TheVariants.{Param, Index, Data}
+use Rattle.spf_kernel.proofs.Common.{Sort, ◌≡◌, ℕ, ◌+◌, ◌≤◌, ◌<◌, get_or, Bool, true, false, nat_le, ◌||◌, ◌&&◌, List, [], ◌∷◌, ◌++◌, length, filter, take, slice_get, Option, Some, refl, ap, sym, ◌∙◌, true≢false, append_assoc, append-nil, subst, ◌⊎◌, inl, inr, ⊎_elim, arith, ⊤, nat_tests, length-map, map-append, map_push, take_all, take_more, bytes_eq, insert_key, Before, Note, Says, Declared, Variable, Breach, IsFirst, Fact, fact_of, facts_of, names_of, IsUnbroken, count_that, is_data, is_in_scope, is_loop, is_naming, is_param, is_site, is_table, names_that, is_known, declares, cond, false_from_ne_true, length-filter, before_of, once, IsShort}
 use Rattle.spf_kernel.specs.Rules.{late_name, rules}
 use Rattle.spf_kernel.proofs.Adding.{names_more, once_names_more, with_name, count_more, more}
 
@@ -58,9 +57,9 @@ one_more limit false n e few = few
 
 few_after : (before : List Fact) (says : Says) → late_name before says ≡ false → IsFew before
     → (more (is_param says) (count_that is_param before) ≤ 64) × (more (is_table says) (count_that is_table before) + more (is_data says) (count_that is_data before) ≤ 64)
-few_after before (Declared Param) e few = (below 64 (count_that is_param before) e, few.arrays)
-few_after before (Declared Index) e few = (few.params, omega (arith, below 64 (count_that is_table before + count_that is_data before) e))
-few_after before (Declared Data) e few = (few.params, omega (arith, below 64 (count_that is_table before + count_that is_data before) e))
+few_after before (Declared Sort.Param) e few = (below 64 (count_that is_param before) e, few.arrays)
+few_after before (Declared Sort.Index) e few = (few.params, omega (arith, below 64 (count_that is_table before + count_that is_data before) e))
+few_after before (Declared Sort.Data) e few = (few.params, omega (arith, below 64 (count_that is_table before + count_that is_data before) e))
 few_after before says e few = (few.params, few.arrays)
 
 few_more : (before : List Fact) (fact : Fact) → Keeps before fact → IsFew before → IsFew (before ++ fact ∷ [])
@@ -111,24 +110,11 @@ naming Variable = inl refl
 naming says = inr (refl, refl, refl)
 
 -- a declared name was not declared before
-record IsNew (before : List Fact) (fact : Fact) : Type 0 where
-  params : is_param fact.says ≡ true → declares is_param before fact.name ≡ false
-  tables : is_table fact.says ≡ true → declares is_table before fact.name ≡ false
-  data_arrays : is_data fact.says ≡ true → declares is_data before fact.name ≡ false
-
-new_name : (before : List Fact) (fact : Fact) → Keeps before fact → IsNew before fact
-new_name before fact keeps = ⊎_elim
-    (λ names.
-    let lacks =
+new_name : (before : List Fact) (fact : Fact) → Keeps before fact → is_naming fact.says ≡ true
+    → (declares is_param before fact.name ≡ false) × (declares is_table before fact.name ≡ false) × (declares is_data before fact.name ≡ false)
+new_name before fact keeps names =
     all_lack (declares is_param before fact.name) (declares is_table before fact.name) (declares is_data before fact.name) (declares is_loop before fact.name)
-    (is_in_scope fact.variables fact.name) (not_second (is_naming fact.says) (is_known before fact.variables fact.name) (keeps 1 _ refl) names) in
-    record { params = λ _. lacks.0; tables = λ _. lacks.1; data_arrays = λ _. lacks.2 })
-    (λ other. record {
-      params = λ holds. absurd (true≢false (sym holds ∙ other.0));
-      tables = λ holds. absurd (true≢false (sym holds ∙ other.1));
-      data_arrays = λ holds. absurd (true≢false (sym holds ∙ other.2));
-    })
-    (naming fact.says)
+    (is_in_scope fact.variables fact.name) (not_second (is_naming fact.says) (is_known before fact.variables fact.name) (keeps 1 _ refl) names)
 
 once_none : once [] ≡ []
 unfolding once
@@ -154,15 +140,15 @@ module _ (facts : List Fact) (sound : AreSound [] facts) where
   module _ (before : Before) (stands : before ≡ before_of facts) where
     params_are : before.params ≡ names_that is_param facts
     unfolding before_of
-    params_are = ap (λ (b : Before). b.params) stands ∙ apart is_param (λ seen fact keeps. (new_name seen fact keeps).params)
+    params_are = ap (λ (b : Before). b.params) stands ∙ apart is_param (λ seen fact keeps holds. (new_name seen fact keeps (⊎_elim (λ names. names) (λ other. absurd (true≢false (sym holds ∙ other.0))) (naming fact.says))).0)
 
     tables_are : before.tables ≡ names_that is_table facts
     unfolding before_of
-    tables_are = ap (λ (b : Before). b.tables) stands ∙ apart is_table (λ seen fact keeps. (new_name seen fact keeps).tables)
+    tables_are = ap (λ (b : Before). b.tables) stands ∙ apart is_table (λ seen fact keeps holds. (new_name seen fact keeps (⊎_elim (λ names. names) (λ other. absurd (true≢false (sym holds ∙ other.1))) (naming fact.says))).1)
 
     data_arrays_are : before.data_arrays ≡ names_that is_data facts
     unfolding before_of
-    data_arrays_are = ap (λ (b : Before). b.data_arrays) stands ∙ apart is_data (λ seen fact keeps. (new_name seen fact keeps).data_arrays)
+    data_arrays_are = ap (λ (b : Before). b.data_arrays) stands ∙ apart is_data (λ seen fact keeps holds. (new_name seen fact keeps (⊎_elim (λ names. names) (λ other. absurd (true≢false (sym holds ∙ other.2))) (naming fact.says))).2)
 
     -- the sets are the declared names
     pub are_names : record { params = before.params; tables = before.tables; data_arrays = before.data_arrays } ≡ names_of facts

@@ -1,6 +1,5 @@
 -- The printed words of a part of a tree, as tokens of the printed text: they spell the part again, with the same facts.
 use Rattle.spf_kernel.proofs.Common.{◌≡◌, ℕ, Bool, ◌≤◌, ◌^◌, List, [], ◌++◌, get_or, refl, ap, sym, ◌∙◌, map-append, Derivation, Grammar, bundle_words, same_kind, Lexed, Production, Token, Kind, Holds, in_words, Note, Scope, TreeNames, Fact, fact_of, facts_of, text_of, variables_in, Names, names_of, lexed, IsFixed, Leaves, IsText}
-use Rattle.spf_lex.specs.declared.kind.Kind.TheVariants as kind
 use Rattle.spf_kernel.proofs.Adding.{more}
 use Rattle.spf_kernel.proofs.NamedUses.{AreFitting}
 
@@ -18,7 +17,7 @@ AreText = IsText bundle_words
 
 -- a token of a text, where the grammar wants one of this kind: a name has the text of a name, and the value isn't too large
 pub record IsLeaf (texts : List (List ℕ)) (wanted : Kind) (leaf : Lexed Kind) : Type 0 where
-  pub name : wanted ≡ kind.Name → IsFixedWord kind.Name (text_of texts leaf.token)
+  pub name : wanted ≡ Kind.Name → IsFixedWord Kind.Name (text_of texts leaf.token)
   pub value : leaf.token.value ≤ 2 ^ 63
 
 -- the names by which numbers are printed
@@ -110,10 +109,10 @@ text_here texts at word there = there
 
 -- the word is a name, and as a token it has the text that this name has in the source
 pub record IsSameName (texts written : List (List ℕ)) (name : Token) (word : List ℕ) (at : ℕ) : Type 0 where
-  pub fixed : IsFixedWord kind.Name word
+  pub fixed : IsFixedWord Kind.Name word
   pub same : text_of written (token_of at word) ≡ text_of texts name
 
-pub name_written : (texts written : List (List ℕ)) (name : Lexed Kind) (word : List ℕ) (at : ℕ) → IsLeaf texts kind.Name name → word ≡ text_of texts name.token → get_or written at [] ≡ word
+pub name_written : (texts written : List (List ℕ)) (name : Lexed Kind) (word : List ℕ) (at : ℕ) → IsLeaf texts Kind.Name name → word ≡ text_of texts name.token → get_or written at [] ≡ word
     → IsSameName texts written name.token word at
 name_written texts written name word at leaf is there = record {
   fixed = rw is (leaf.name refl);

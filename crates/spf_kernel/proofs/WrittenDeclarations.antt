@@ -1,11 +1,5 @@
 -- Declarations are written again.
-use Rattle.spf_kernel.proofs.Common.{◌≡◌, ℕ, false, List, [], ◌∷◌, ◌++◌, map, flat_map, refl, ap, sym, ◌∙◌, subst, codes, append_assoc, append-nil, bundle_words, ◌or◌, token, Token, small_fixed, symbol_fixed, Term, Note, RawIx, RawSized, RawDecl, DataDecl, Decl, text_of, fact_with, Names, names_of, param_note, head_notes, cells_notes, decl_notes, term_words, trend_words, array_words, decl_words, head_of, data_decl_of, decl_of, sized_words}
-use Rattle.spf_lex.specs.declared.kind.Kind.TheVariants as kind
-use Rattle.spf_kernel.specs.declared.note.Says.TheVariants as says_is
-use Rattle.spf_kernel.specs.declared.note.Sort.TheVariants as sort_is
-use Rattle.spf_kernel.specs.declared.note.Spot.TheVariants as spot_is
-use Rattle.spf_kernel.specs.declared.raw.RawDecl.TheVariants as raw_decl
-use Rattle.spf_kernel.specs.declared.tree.Decl.TheVariants as decl_is
+use Rattle.spf_kernel.proofs.Common.{Spot, Sort, Says, Kind, ◌≡◌, ℕ, false, List, [], ◌∷◌, ◌++◌, map, flat_map, refl, ap, sym, ◌∙◌, subst, codes, append_assoc, append-nil, bundle_words, ◌or◌, token, Token, small_fixed, symbol_fixed, Term, Note, RawIx, RawSized, RawDecl, DataDecl, Decl, text_of, fact_with, Names, names_of, param_note, head_notes, cells_notes, decl_notes, trend_words, array_words, decl_words, head_of, data_decl_of, decl_of, sized_words}
 use Rattle.spf_kernel.specs.Productions as syntax
 use Rattle.spf_kernel.proofs.Written.{in_source, IsFixedWord, Source, shown, Meaning, AreFit, AreWritten, same_by}
 use Rattle.spf_kernel.proofs.WrittenLoops.{outside}
@@ -13,8 +7,8 @@ use Rattle.spf_kernel.proofs.WrittenParts.{Written, either_written, ◌&◌, led
 use Rattle.spf_kernel.proofs.WrittenSigns.{trend_written}
 use Rattle.spf_kernel.proofs.WrittenStatements.{semicolon, in_word, range_word, an_ix, a_size}
 
-comma : IsFixedWord kind.Comma (codes ",")
-comma = symbol_fixed bundle_words kind.Comma (codes ",") refl refl
+comma : IsFixedWord Kind.Comma (codes ",")
+comma = symbol_fixed bundle_words Kind.Comma (codes ",") refl refl
 
 three_notes : (size low high : List Note) → size ++ low ++ high ≡ size ++ (low ++ (high ++ []))
 three_notes size low high = append_assoc size low high ∙ ap (λ (notes : List Note). size ++ (low ++ notes)) (sym (append-nil high))
@@ -29,7 +23,7 @@ module _ (s : Source) where
 
   -- an index expression with no variable in scope
   abbrev pub a_head : Written s false RawIx Term
-  a_head = an_ix (outside s) spot_is.Head refl 5
+  a_head = an_ix (outside s) Spot.Head refl 5
 
   -- ---- names of parameters
 
@@ -39,9 +33,9 @@ module _ (s : Source) where
   abbrev named_token : Token → Token
   named_token name = name
 
-  param_written : AreWritten s (token kind.Name) param_as
+  param_written : AreWritten s (token Kind.Name) param_as
   param_written = made_of a_name param_as named_token
-      (record { fit = λ r fit. tt; words = λ r fit. refl; means = λ r again same. same; same = λ r again same facts i. fact_with (says_is.Declared sort_is.Param) (same i) [] ∷ [] })
+      (record { fit = λ r fit. tt; words = λ r fit. refl; means = λ r again same. same; same = λ r again same facts i. fact_with (Says.Declared Sort.Param) (same i) [] ∷ [] })
 
   -- ---- arrays and their sizes
 
@@ -60,7 +54,7 @@ module _ (s : Source) where
 
   sized_written : AreWritten s syntax.sized sized_as
   unfolding syntax.sized
-  sized_written = made_of (a_name & a_size (outside s) spot_is.Head refl) sized_as (λ x. record { name = x.0; size = x.1 })
+  sized_written = made_of (a_name & a_size (outside s) Spot.Head refl) sized_as (λ x. record { name = x.0; size = x.1 })
       (record { fit = λ r fit. fit; words = λ r fit. refl; means = λ r again same. same; same = λ r again same facts. facts })
 
   abbrev a_sized : Written s false RawSized Sized
@@ -77,7 +71,7 @@ module _ (s : Source) where
     fit = λ r fit. fit.1;
     words = λ r fit. refl;
     means = λ r again same i. record { name = (same i).0; size = (same i).1 };
-    same = λ r again same facts i. fact_with (says_is.Declared sort_is.Data) (same i).0 [] ∷ facts i;
+    same = λ r again same facts i. fact_with (Says.Declared Sort.Data) (same i).0 [] ∷ facts i;
   })
 
   -- ---- declarations
@@ -88,33 +82,33 @@ module _ (s : Source) where
   params_written : AreWritten s syntax.params decl_as
   unfolding syntax.params
   params_written =
-      made_of (led_by (small_fixed bundle_words kind.Param (codes "param") refl refl) (ended_by semicolon (parted_by comma (record { form = token kind.Name; of = param_as; again = param_written })))) decl_as raw_decl.Params
+      made_of (led_by (small_fixed bundle_words Kind.Param (codes "param") refl refl) (ended_by semicolon (parted_by comma (record { form = token Kind.Name; of = param_as; again = param_written })))) decl_as RawDecl.Params
       (record {
         fit = λ r. subst (AreFit s) (one_note_each r);
         words = λ r fit. refl;
-        means = λ r again same i. decl_is.Params (same i);
+        means = λ r again same i. Decl.Params (same i);
         same = λ r again same facts. same_by s.texts s.written (one_note_each again) (one_note_each r) facts;
       })
 
   index_written : AreWritten s syntax.index decl_as
   unfolding syntax.index
   index_written =
-      made_of (led_by (small_fixed bundle_words kind.Index (codes "index") refl refl) (a_sized & led_by in_word (a_head & led_by range_word (a_head & ended_by semicolon (a_sign syntax.trend (λ trend. trend) trend_words trend_written))))) decl_as
-      (λ x. raw_decl.Index x.0 x.1.0 x.1.1.0 x.1.1.1)
+      made_of (led_by (small_fixed bundle_words Kind.Index (codes "index") refl refl) (a_sized & led_by in_word (a_head & led_by range_word (a_head & ended_by semicolon (a_sign syntax.trend (λ trend. trend) trend_words trend_written))))) decl_as
+      (λ x. RawDecl.Index x.0 x.1.0 x.1.1.0 x.1.1.1)
       (record {
         fit = λ r fit. subst (AreFit s) (three_notes (head_notes r.0.size) (head_notes r.1.0) (head_notes r.1.1.0)) fit.1;
         words = λ r fit. refl;
-        means = λ r again same i. decl_is.Index (same i).0.0 (same i).0.1 (same i).1.0 (same i).1.1.0 (same i).1.1.1;
+        means = λ r again same i. Decl.Index (same i).0.0 (same i).0.1 (same i).1.0 (same i).1.1.0 (same i).1.1.1;
         same = λ r again same facts.
             let all = same_by s.texts s.written (three_notes (head_notes again.0.size) (head_notes again.1.0) (head_notes again.1.1.0)) (three_notes (head_notes r.0.size) (head_notes r.1.0) (head_notes r.1.1.0)) facts in
-            λ i. fact_with (says_is.Declared sort_is.Index) (same i).0.0 [] ∷ all i;
+            λ i. fact_with (Says.Declared Sort.Index) (same i).0.0 [] ∷ all i;
       })
 
   values_written : AreWritten s syntax.values decl_as
   unfolding syntax.values
   values_written =
-      made_of (led_by (small_fixed bundle_words kind.Data (codes "data") refl refl) (ended_by semicolon (parted_by comma (record { form = syntax.sized; of = cells_as; again = cells_written })))) decl_as raw_decl.Values
-      (record { fit = λ r fit. fit; words = λ r fit. refl; means = λ r again same i. decl_is.Values (same i); same = λ r again same facts. facts })
+      made_of (led_by (small_fixed bundle_words Kind.Data (codes "data") refl refl) (ended_by semicolon (parted_by comma (record { form = syntax.sized; of = cells_as; again = cells_written })))) decl_as RawDecl.Values
+      (record { fit = λ r fit. fit; words = λ r fit. refl; means = λ r again same i. Decl.Values (same i); same = λ r again same facts. facts })
 
   pub decl_written : AreWritten s syntax.decl decl_as
   unfolding syntax.decl

@@ -1,6 +1,5 @@
 -- A kernel is written again: the words that its tree is printed as are read as the same tree, with notes that tell the same.
-use Rattle.spf_kernel.proofs.Common.{◌≡◌, ℕ, List, [], ◌∷◌, ◌++◌, map, flat_map, refl, ap, sym, ◌∙◌, subst, codes, append_assoc, bundle_words, Derivation, Lexed, Kind, small_fixed, Holds, in_words, RawIx, RawDecl, RawLoop, RawKernel, Tree, TreeNames, facts_of, Names, names_of, decl_notes, head_notes, decl_words, term_words, loop_words, words_of, decl_of, head_of, loop_of, tree_of, names_in, Leaves, loop_notes, kernel_notes, words_with}
-use Rattle.spf_lex.specs.declared.kind.Kind.TheVariants as kind
+use Rattle.spf_kernel.proofs.Common.{◌≡◌, ℕ, List, ◌++◌, flat_map, refl, ap, sym, subst, codes, append_assoc, bundle_words, Derivation, Lexed, Kind, small_fixed, Holds, in_words, RawIx, RawDecl, RawLoop, RawKernel, Tree, TreeNames, facts_of, Names, names_of, decl_notes, head_notes, words_of, tree_of, names_in, Leaves, loop_notes, kernel_notes, words_with}
 use Rattle.spf_kernel.specs.Productions as syntax
 use Rattle.spf_kernel.proofs.NamedLists.{params_found, tables_found, arrays_found}
 use Rattle.spf_kernel.proofs.Written.{IsLeaf, Source, shown, Meaning, AreFit, IsWritten, AreWritten, same_by}
@@ -28,7 +27,7 @@ module _ (s : Source) where
   kernel_written : AreWritten s syntax.kernel (kernel_as (words_with (shown names)))
   unfolding syntax.kernel
   kernel_written =
-      made_of (led_by (small_fixed bundle_words kind.Kernel (codes "kernel") refl refl) (led_by open_brace (repeated (record { form = syntax.decl; of = decl_as s; again = decl_written s }) & led_by (small_fixed bundle_words kind.Steps (codes "steps") refl refl) (a_head s & led_by semicolon (ended_by close_brace (repeated (record { form = syntax.one_loop; of = loop_as s; again = loop_written s }))))))) (kernel_as (words_with (shown names)))
+      made_of (led_by (small_fixed bundle_words Kind.Kernel (codes "kernel") refl refl) (led_by open_brace (repeated (record { form = syntax.decl; of = decl_as s; again = decl_written s }) & led_by (small_fixed bundle_words Kind.Steps (codes "steps") refl refl) (a_head s & led_by semicolon (ended_by close_brace (repeated (record { form = syntax.one_loop; of = loop_as s; again = loop_written s }))))))) (kernel_as (words_with (shown names)))
       raw_of
       (record {
         fit = λ r. subst (AreFit s) (all_notes (raw_of r));

@@ -1,18 +1,8 @@
 -- Loops are written again, and what stands in their bodies.
-use Rattle.spf_kernel.proofs.Common.{◌≡◌, ℕ, false, List, [], ◌∷◌, ◌++◌, map, flat_map, refl, ap, sym, ◌∙◌, codes, append_assoc, bundle_words, ◌<$>◌, many, Token, small_fixed, symbol_fixed, RawRange, RawPart, RawItem, RawLoop, text_of, fact_with, Names, names_of, part_notes, item_notes, part_words, range_words, item_words, loop_words, term_of, part_of, item_of, loop_of, nothing, within, inside, Part, loop_notes, block}
-use Rattle.spf_lex.specs.declared.kind.Kind.TheVariants as kind
-use Rattle.spf_kernel.specs.declared.note.Sort.TheVariants as sort_is
-use Rattle.spf_kernel.specs.declared.note.Says.TheVariants as says_is
-use Rattle.spf_kernel.specs.declared.note.Spot.TheVariants as spot_is
-use Rattle.spf_kernel.specs.declared.raw.RawPart.TheVariants as raw_part
-use Rattle.spf_kernel.specs.declared.raw.RawItem.TheVariants as raw_item
-use Rattle.spf_kernel.specs.declared.tree.Part.TheVariants as part_is
-use Rattle.spf_kernel.specs.declared.tree.Item.{Item}
-use Rattle.spf_kernel.specs.declared.tree.Item.TheVariants as item_is
-use Rattle.spf_kernel.specs.declared.tree.Loop.{Loop}
+use Rattle.spf_kernel.proofs.Common.{Item, Loop, Spot, Says, Sort, Kind, ◌≡◌, ℕ, List, [], ◌∷◌, map, flat_map, refl, ap, sym, ◌∙◌, codes, bundle_words, ◌<$>◌, many, Token, small_fixed, symbol_fixed, RawRange, RawPart, RawItem, RawLoop, text_of, fact_with, Names, names_of, part_notes, item_notes, part_words, item_words, loop_words, part_of, item_of, loop_of, nothing, within, inside, Part, loop_notes, block}
 use Rattle.spf_kernel.specs.Productions as syntax
 use Rattle.spf_kernel.proofs.Written.{in_source, Source, Context, shown, Meaning, AreWritten}
-use Rattle.spf_kernel.proofs.WrittenParts.{Behind, Written, either_written, ◌&◌, then_by, led_by, enclosed_by, repeated, a_name, made_of}
+use Rattle.spf_kernel.proofs.WrittenParts.{Behind, either_written, ◌&◌, then_by, led_by, enclosed_by, repeated, a_name, made_of}
 use Rattle.spf_kernel.proofs.WrittenStatements.{Range, braced, a_part, a_range}
 
 -- ---- loops
@@ -48,19 +38,19 @@ module _ (s : Source) where
     -- ---- a part of an inner body, as one of an outer body
 
     abbrev as_item : Part → Item
-    as_item (part_is.Assign assign) = item_is.Assign assign
-    as_item (part_is.Branch guard) = item_is.Branch guard
+    as_item (Part.Assign assign) = Item.Assign assign
+    as_item (Part.Branch guard) = Item.Branch guard
 
-    part_as_item : (texts : List (List ℕ)) (outer : Token) (x : RawPart) → item_of texts names outer (raw_item.Part x) ≡ as_item (part_of texts names (within outer) x)
-    part_as_item texts outer (raw_part.Assign x) = refl
-    part_as_item texts outer (raw_part.Guard x) = refl
+    part_as_item : (texts : List (List ℕ)) (outer : Token) (x : RawPart) → item_of texts names outer (RawItem.Part x) ≡ as_item (part_of texts names (within outer) x)
+    part_as_item texts outer (RawPart.Assign x) = refl
+    part_as_item texts outer (RawPart.Guard x) = refl
 
     part_words_of_item : (x : Part) → item_words (shown names) outer_vars (as_item x) ≡ part_words (shown names) outer_vars x
-    part_words_of_item (part_is.Assign x) = refl
-    part_words_of_item (part_is.Branch x) = refl
+    part_words_of_item (Part.Assign x) = refl
+    part_words_of_item (Part.Branch x) = refl
 
-    item_part_written : AreWritten s (raw_item.Part <$> syntax.part) item_as
-    item_part_written = made_of (a_part one_loop) item_as raw_item.Part (record {
+    item_part_written : AreWritten s (RawItem.Part <$> syntax.part) item_as
+    item_part_written = made_of (a_part one_loop) item_as RawItem.Part (record {
       fit = λ r fit. fit;
       words = λ r fit. ap (item_words (shown names) outer_vars) (part_as_item s.texts outer r) ∙ part_words_of_item (part_of s.texts names (within outer) r);
       means = λ r again same. part_as_item s.written outer_again again ∙ ap as_item same ∙ sym (part_as_item s.texts outer r);
@@ -81,18 +71,18 @@ module _ (s : Source) where
     inner_written : AreWritten s syntax.inner item_as
     unfolding syntax.inner
     inner_written =
-        made_of (led_by (small_fixed bundle_words kind.For (codes "for") refl refl) (then_by (a_range one_loop spot_is.Body refl) (syntax.braced (many syntax.part)) inner_body (λ r again same. (braced (repeated (a_part (two_loops r.var again.var (λ i. (same i).0))))).again))) item_as
-        (λ x. raw_item.Inner x.0 x.1)
+        made_of (led_by (small_fixed bundle_words Kind.For (codes "for") refl refl) (then_by (a_range one_loop Spot.Body refl) (syntax.braced (many syntax.part)) inner_body (λ r again same. (braced (repeated (a_part (two_loops r.var again.var (λ i. (same i).0))))).again))) item_as
+        (λ x. RawItem.Inner x.0 x.1)
         (record {
           fit = λ r fit. fit.1;
           words = λ r fit. refl;
-          means = λ r again same i. item_is.Inner (same i).0.0 (same i).0.1.0 (same i).0.1.1 (same i).1;
-          same = λ r again same facts i. fact_with says_is.Variable (same i).0.0 (same_outer i ∷ []) ∷ facts i;
+          means = λ r again same i. Item.Inner (same i).0.0 (same i).0.1.0 (same i).0.1.1 (same i).1;
+          same = λ r again same facts i. fact_with Says.Variable (same i).0.0 (same_outer i ∷ []) ∷ facts i;
         })
 
     item_written : AreWritten s syntax.item item_as
     unfolding syntax.item
-    item_written = either_written (raw_item.Part <$> syntax.part) syntax.inner item_as item_part_written inner_written
+    item_written = either_written (RawItem.Part <$> syntax.part) syntax.inner item_as item_part_written inner_written
 
   -- ---- outer loops
 
@@ -112,12 +102,12 @@ module _ (s : Source) where
   unfolding syntax.one_loop loop_notes
   loop_written =
       made_of
-      (led_by (small_fixed bundle_words kind.Loop (codes "loop") refl refl) (a_name & then_by (enclosed_by (symbol_fixed bundle_words kind.OpenParenthesis (codes "(") refl refl) (symbol_fixed bundle_words kind.CloseParenthesis (codes ")") refl refl) (a_range outside spot_is.Bound refl)) (syntax.braced (many syntax.item)) outer_body
+      (led_by (small_fixed bundle_words Kind.Loop (codes "loop") refl refl) (a_name & then_by (enclosed_by (symbol_fixed bundle_words Kind.OpenParenthesis (codes "(") refl refl) (symbol_fixed bundle_words Kind.CloseParenthesis (codes ")") refl refl) (a_range outside Spot.Bound refl)) (syntax.braced (many syntax.item)) outer_body
       (λ r again same. (braced (repeated (record { form = syntax.item; of = item_as r.var again.var (λ i. (same i).0); again = item_written r.var again.var (λ i. (same i).0) }))).again)))
       loop_as (λ x. record { name = x.0; range = x.1.0; items = x.1.1 })
       (record {
         fit = λ r fit. fit.1.1;
         words = λ r fit. refl;
         means = λ r again same i. record { name = (same i).0; var = (same i).1.0.0; low = (same i).1.0.1.0; high = (same i).1.0.1.1; items = (same i).1.1 };
-        same = λ r again same facts i. fact_with (says_is.Declared sort_is.Loop) (same i).0 [] ∷ fact_with says_is.Variable (same i).1.0.0 [] ∷ facts i;
+        same = λ r again same facts i. fact_with (Says.Declared Sort.Loop) (same i).0 [] ∷ fact_with Says.Variable (same i).1.0.0 [] ∷ facts i;
       })

@@ -1,7 +1,5 @@
 -- Where the atoms are written again, so are the monomials and the sums of them.
-use Rattle.spf_kernel.proofs.Common.{suc, ◌≡◌, ℕ, ℤ, pos, ◌+◌, ◌≤◌, ◌==◌, Bool, true, false, if◌then◌else◌, List, [], ◌∷◌, ◌++◌, map, flat_map, is_some, refl, ap, ◌∙◌, subst, arith, inl, inr, codes, decimal, unsigned_abs, length, sym, is_negative, AllByRecursion, nat_tests, bundle_words, Derivation, Lexed, Kind, symbol_fixed, split_each, Holds, behind_word, behind_part, on_left, on_right, Mono, Note, Spot, RawAtom, Fact, facts_of, mono_notes, atom_notes, atom_monomials, number_notes, mono_words, atom_words, atom_of, wrap, Leaves, Atom, Syntax, signed}
-use Rattle.spf_lex.specs.declared.kind.Kind.TheVariants as kind
-use Rattle.spf_term.specs.declared.term.Mono.{roll-Mono}
+use Rattle.spf_kernel.proofs.Common.{roll-Mono, suc, ◌≡◌, ℕ, ℤ, pos, ◌+◌, ◌≤◌, ◌==◌, Bool, true, false, if◌then◌else◌, List, [], ◌∷◌, ◌++◌, map, flat_map, is_some, refl, ap, ◌∙◌, subst, arith, inl, inr, codes, decimal, unsigned_abs, length, sym, is_negative, AllByRecursion, nat_tests, bundle_words, Derivation, Lexed, Kind, symbol_fixed, split_each, Holds, behind_word, behind_part, on_left, on_right, Mono, Note, Spot, RawAtom, Fact, facts_of, mono_notes, atom_notes, atom_monomials, number_notes, mono_words, atom_words, atom_of, wrap, Leaves, Atom, Syntax, signed}
 use Rattle.spf_kernel.specs.Productions as syntax
 use Rattle.spf_kernel.proofs.NamedUses.{IsFitting}
 use Rattle.spf_kernel.proofs.NoteEquations.{step_notes, number_fits, number_within}
@@ -66,7 +64,7 @@ module _ (c : Context) (spot : Spot) (a : Syntax RawAtom) where
         let found = read (at + 1 + 1) holds.1.1 in
         let number = number_written (unsigned_abs coef) at (omega (arith, size)) in
         let token = syntax.number.make number.text.derivation in
-        let star : IsFixedWord kind.Star (codes "*") = symbol_fixed bundle_words kind.Star (codes "*") refl refl in
+        let star : IsFixedWord Kind.Star (codes "*") = symbol_fixed bundle_words Kind.Star (codes "*") refl refl in
         record {
           text = on_left (behind_part number.text (on_left (behind_word (at + 1) star found.text)));
           gives = λ i. roll-Mono (record { coef = same_coef token.value number.same i; atom = found.means i }) ∷ [];

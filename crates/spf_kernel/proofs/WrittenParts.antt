@@ -1,6 +1,5 @@
 -- What is written again where its parts are: words in front and behind, two parts, choices, lists, and what is made of a part.
 use Rattle.spf_kernel.proofs.Common.{◌≡◌, ℕ, ◌+◌, Bool, true, false, ◌&&◌, List, [], ◌∷◌, ◌++◌, length, map, flat_map, refl, ap, sym, subst, inl, inr, same_kind, Production, ◌<$>◌, ◌or◌, token, many, and_more, Token, Kind, split_each, Holds, holds_both, word_alone, behind_word, behind_part, on_left, on_right, none_more, one_more, in_words, Note, facts_of, text_of, ◌>>=◌, production, last, behind, separated, Leaves, Syntax}
-use Rattle.spf_lex.specs.declared.kind.Kind.TheVariants as kind
 use Rattle.spf_kernel.specs.Printed as printed
 use Rattle.spf_kernel.proofs.Adding.{more}
 use Rattle.spf_kernel.proofs.NamedUses.{IsFitting}
@@ -170,7 +169,7 @@ module _ {s : Source} where
       let is = reads (p.make d) at in
       record { text = is.text; means = ap means is.same; same = refl }
 
-  pub any_name_written : AreWritten s (token kind.Name) (name_as s)
+  pub any_name_written : AreWritten s (token Kind.Name) (name_as s)
   unfolding Leaves
   any_name_written name leaf fit at holds =
       let is = name_written s.texts s.written name (text_of s.texts name.token) at leaf refl holds.0 in
@@ -212,7 +211,7 @@ module _ {s : Source} where
   a_sign p means words reads = record { form = p; of = sign_as means words; again = sign_written p means words reads }
 
   abbrev pub a_name : Written s false Token (List ℕ)
-  a_name = record { form = token kind.Name; of = name_as s; again = any_name_written }
+  a_name = record { form = token Kind.Name; of = name_as s; again = any_name_written }
 
   -- what is made of a part
   pub made_of : {R S A B : Type 0} {empty : Bool} (x : Written s empty R A) (all : Meaning S B) (f : R → S) → Follows s x.of all f → AreWritten s (f <$> x.form) all

@@ -1,13 +1,5 @@
 -- Assignments, conditions, guarded assignments and ranges are written again.
-use Rattle.spf_kernel.proofs.Common.{◌≡◌, ℕ, Bool, true, false, List, [], ◌∷◌, ◌++◌, map, flat_map, refl, ap, ◌∙◌, codes, append_assoc, bundle_words, ◌<$>◌, small_fixed, symbol_fixed, Term, Spot, RawIx, RawValue, RawAssign, RawCond, RawGuard, RawRange, RawPart, Value, fact_of, text_of, fact_with, Names, number_of, expression_notes, assign_notes, cond_notes, guard_notes, part_notes, conds_head, mark, term_words, value_words, becomes_word, compare_word, assign_words, cond_words, part_words, range_words, term_of, assign_of, cond_of, guard_of, part_of, is_data, takes_data, Part, ix_head, guard_words, becomes, value_of}
-use Rattle.spf_lex.specs.declared.kind.Kind.TheVariants as kind
-use Rattle.spf_kernel.specs.declared.note.Says.TheVariants as says_is
-use Rattle.spf_kernel.specs.declared.note.Spot.TheVariants as spot_is
-use Rattle.spf_kernel.specs.declared.raw.RawPart.TheVariants as raw_part
-use Rattle.spf_kernel.specs.declared.tree.Assign.{Assign}
-use Rattle.spf_kernel.specs.declared.tree.Cond.{Cond}
-use Rattle.spf_kernel.specs.declared.tree.Guard.{Guard}
-use Rattle.spf_kernel.specs.declared.tree.Part.TheVariants as part_is
+use Rattle.spf_kernel.proofs.Common.{Assign, Cond, Guard, Says, Kind, ◌≡◌, ℕ, Bool, true, false, List, [], ◌∷◌, ◌++◌, refl, ap, codes, bundle_words, ◌<$>◌, small_fixed, symbol_fixed, Term, Spot, RawIx, RawValue, RawAssign, RawCond, RawGuard, RawRange, RawPart, Value, fact_of, text_of, fact_with, Names, number_of, expression_notes, assign_notes, cond_notes, guard_notes, part_notes, conds_head, mark, becomes_word, compare_word, assign_words, cond_words, part_words, range_words, term_of, assign_of, cond_of, guard_of, part_of, is_data, takes_data, Part, ix_head, guard_words, becomes}
 use Rattle.spf_kernel.specs.Printed as printed
 use Rattle.spf_kernel.specs.Productions as syntax
 use Rattle.spf_kernel.proofs.FittingNames.{number_declared}
@@ -19,20 +11,20 @@ use Rattle.spf_kernel.proofs.WrittenValues.{value_as, value_written}
 
 -- ---- words in front and behind
 
-pub semicolon : IsFixedWord kind.Semicolon (codes ";")
-semicolon = symbol_fixed bundle_words kind.Semicolon (codes ";") refl refl
+pub semicolon : IsFixedWord Kind.Semicolon (codes ";")
+semicolon = symbol_fixed bundle_words Kind.Semicolon (codes ";") refl refl
 
-pub in_word : IsFixedWord kind.In (codes "in")
-in_word = small_fixed bundle_words kind.In (codes "in") refl refl
+pub in_word : IsFixedWord Kind.In (codes "in")
+in_word = small_fixed bundle_words Kind.In (codes "in") refl refl
 
-pub range_word : IsFixedWord kind.Range (codes "..")
-range_word = symbol_fixed bundle_words kind.Range (codes "..") refl refl
+pub range_word : IsFixedWord Kind.Range (codes "..")
+range_word = symbol_fixed bundle_words Kind.Range (codes "..") refl refl
 
-pub open_brace : IsFixedWord kind.OpenBrace (codes "{")
-open_brace = symbol_fixed bundle_words kind.OpenBrace (codes "{") refl refl
+pub open_brace : IsFixedWord Kind.OpenBrace (codes "{")
+open_brace = symbol_fixed bundle_words Kind.OpenBrace (codes "{") refl refl
 
-pub close_brace : IsFixedWord kind.CloseBrace (codes "}")
-close_brace = symbol_fixed bundle_words kind.CloseBrace (codes "}") refl refl
+pub close_brace : IsFixedWord Kind.CloseBrace (codes "}")
+close_brace = symbol_fixed bundle_words Kind.CloseBrace (codes "}") refl refl
 
 -- parts between brackets, and between braces
 abbrev pub bracketed : {s : Source} {R A : Type 0} {empty : Bool} → Written s empty R A → Written s false R A
@@ -64,7 +56,7 @@ module _ (c : Context) where
   names = names_in c
 
   abbrev body_ix : Written s false RawIx Term
-  body_ix = an_ix c spot_is.Body refl 5
+  body_ix = an_ix c Spot.Body refl 5
 
   -- ---- assignments
 
@@ -77,7 +69,7 @@ module _ (c : Context) where
   assign_written : AreWritten s syntax.assign assign_as
   unfolding syntax.assign
   assign_written =
-      made_of (a_name & a_size c spot_is.Body refl & a_sign syntax.becomes becomes (λ sign. becomes_word sign ∷ []) becomes_written & ended_by semicolon a_value) assign_as
+      made_of (a_name & a_size c Spot.Body refl & a_sign syntax.becomes becomes (λ sign. becomes_word sign ∷ []) becomes_written & ended_by semicolon a_value) assign_as
       (λ x. record { array = x.0; at = x.1.0; adds = x.1.1.0; value = x.1.1.1 })
       (record {
         fit = λ r fit. fit.1;
@@ -85,7 +77,7 @@ module _ (c : Context) where
             let after = (bracketed body_ix & a_sign syntax.becomes becomes (λ sign. becomes_word sign ∷ []) becomes_written & ended_by semicolon a_value).of in
             ap (λ (array : List ℕ). array ∷ after.words (after.means r.1)) (number_declared is_data c.facts (text_of c.texts r.0) fit.0).named;
         means = λ r again same i. record { array = number_of names.data_arrays (same i).0; sub = (same i).1.0; sign = (same i).1.1.0; value = (same i).1.1.1 };
-        same = λ r again same facts i. fact_with (says_is.Used true spot_is.Target) (same i).0 (c.scoped i) ∷ facts i;
+        same = λ r again same facts i. fact_with (Says.Used true Spot.Target) (same i).0 (c.scoped i) ∷ facts i;
       })
 
   abbrev an_assign : Written s false RawAssign Assign
@@ -104,7 +96,7 @@ module _ (c : Context) where
         fit = λ r fit. fit.1;
         words = λ r fit. refl;
         means = λ r again same i. record { left = (same i).0; sign = (same i).1.0; right = (same i).1.1 };
-        same = λ r again same facts i. fact_of c.texts (mark (ix_head r.0) says_is.Condition) ∷ facts i;
+        same = λ r again same facts i. fact_of c.texts (mark (ix_head r.0) Says.Condition) ∷ facts i;
       })
 
   abbrev guard_as : Meaning RawGuard Guard
@@ -113,12 +105,12 @@ module _ (c : Context) where
   guard_written : AreWritten s syntax.guard guard_as
   unfolding syntax.guard
   guard_written =
-      made_of (led_by (small_fixed bundle_words kind.If (codes "if") refl refl) (parted_by (small_fixed bundle_words kind.And (codes "and") refl refl) (record { form = syntax.cond; of = cond_as; again = cond_written }) & braced (repeated an_assign))) guard_as (λ x. record { conds = x.0; body = x.1 })
+      made_of (led_by (small_fixed bundle_words Kind.If (codes "if") refl refl) (parted_by (small_fixed bundle_words Kind.And (codes "and") refl refl) (record { form = syntax.cond; of = cond_as; again = cond_written }) & braced (repeated an_assign))) guard_as (λ x. record { conds = x.0; body = x.1 })
       (record {
         fit = λ r fit. fit.1;
         words = λ r fit. refl;
         means = λ r again same i. record { conds = (same i).0; body = (same i).1 };
-        same = λ r again same facts i. fact_of c.texts (mark (conds_head r.0) says_is.Guard) ∷ facts i;
+        same = λ r again same facts i. fact_of c.texts (mark (conds_head r.0) Says.Guard) ∷ facts i;
       })
 
   -- ---- the parts of a body
@@ -129,9 +121,9 @@ module _ (c : Context) where
   pub part_written : AreWritten s syntax.part part_as
   unfolding syntax.part
   part_written =
-      either_written (raw_part.Assign <$> syntax.assign) (raw_part.Guard <$> syntax.guard) part_as
-      (made_of an_assign part_as raw_part.Assign (record { fit = λ r fit. fit; words = λ r fit. refl; means = λ r again same. ap part_is.Assign same; same = λ r again same facts. facts }))
-      (made_of (record { form = syntax.guard; of = guard_as; again = guard_written }) part_as raw_part.Guard (record { fit = λ r fit. fit; words = λ r fit. refl; means = λ r again same. ap part_is.Branch same; same = λ r again same facts. facts }))
+      either_written (RawPart.Assign <$> syntax.assign) (RawPart.Guard <$> syntax.guard) part_as
+      (made_of an_assign part_as RawPart.Assign (record { fit = λ r fit. fit; words = λ r fit. refl; means = λ r again same. ap Part.Assign same; same = λ r again same facts. facts }))
+      (made_of (record { form = syntax.guard; of = guard_as; again = guard_written }) part_as RawPart.Guard (record { fit = λ r fit. fit; words = λ r fit. refl; means = λ r again same. ap Part.Branch same; same = λ r again same facts. facts }))
 
   abbrev pub a_part : Written s false RawPart Part
   a_part = record { form = syntax.part; of = part_as; again = part_written }

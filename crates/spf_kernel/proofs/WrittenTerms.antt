@@ -3,8 +3,6 @@
 use Rattle.spf_kernel.proofs.Common.{◌≡◌, ℕ, true, false, List, [], ◌∷◌, Option, None, Some, refl, ap, ◌∙◌, Token, Spot, text_of, variables_in, Names, number_of, atom_words, variable_of, table_of, bare_atom, takes_data, fits, name_at, zero, suc, ◌+◌, ◌++◌, is_some, sym, subst, arith, inl, inr, codes, length, bundle_words, Lexed, Grammar, Kind, symbol_fixed, split_each, Holds, stands_inside, word_alone, behind_word, on_left, absent, Term, Used, Note, Scope, RawIx, RawAtom, out-roll-RawAtom, facts_of, fact_with, note, ix_notes, atom_notes, expression_notes, atom_monomials, excess_notes, ix_monomials, monomial_limit, term_words, named, atom_of, term_of, One, Then, Leaves, enclosed, Atom, Syntax}
 use Rattle.spf_kernel.proofs.FittingNames.{IsBare, bare_fits, table_fits, variable_named}
 use Rattle.spf_kernel.proofs.Written.{Context, names_in, shown_in, vars_in, in_scope, AreText, IsFixedWord, IsLeaf, token_of, Meaning, source, AreFit, AreWritten, text_here, name_written}
-use Rattle.spf_lex.specs.declared.kind.Kind.TheVariants as kind
-use Rattle.spf_term.specs.declared.term.Atom.TheVariants as atom_is
 use Rattle.spf_kernel.specs.Productions as syntax
 use Rattle.spf_kernel.proofs.NamedUses.{IsFitting}
 use Rattle.spf_kernel.proofs.NoteEquations.{at_notes, atom_notes_are, at_monomials, atom_monomials_are, few_monomials, none_in_excess}
@@ -41,7 +39,7 @@ module _ (c : Context) where
   bare_means name other same = ap (λ (found : Option ℕ). bare_atom c.written names found other) (variable_again name other same) ∙ by (variable_of (vars_in c) (text_of c.texts name)) where
     by : (found : Option ℕ) → bare_atom c.written names found other ≡ bare_atom c.texts names found name
     by (Some variable) = refl
-    by None = ap atom_is.Param (ap (number_of names.params) same)
+    by None = ap Atom.Param (ap (number_of names.params) same)
 
   -- ---- a name with brackets
 
@@ -53,14 +51,14 @@ module _ (c : Context) where
 
 -- ---- brackets
 
-pub open_bracket : IsFixedWord kind.OpenBracket (codes "[")
-open_bracket = symbol_fixed bundle_words kind.OpenBracket (codes "[") refl refl
+pub open_bracket : IsFixedWord Kind.OpenBracket (codes "[")
+open_bracket = symbol_fixed bundle_words Kind.OpenBracket (codes "[") refl refl
 
-pub close_bracket : IsFixedWord kind.CloseBracket (codes "]")
-close_bracket = symbol_fixed bundle_words kind.CloseBracket (codes "]") refl refl
+pub close_bracket : IsFixedWord Kind.CloseBracket (codes "]")
+close_bracket = symbol_fixed bundle_words Kind.CloseBracket (codes "]") refl refl
 
 -- words between brackets
-abbrev pub in_brackets : {g : Grammar Kind} {words : List (List ℕ)} (at : ℕ) → AreText g words (at + 1) → AreText (Then (One kind.OpenBracket) (Then g (One kind.CloseBracket))) (codes "[" ∷ (words ++ codes "]" ∷ [])) at
+abbrev pub in_brackets : {g : Grammar Kind} {words : List (List ℕ)} (at : ℕ) → AreText g words (at + 1) → AreText (Then (One Kind.OpenBracket) (Then g (One Kind.CloseBracket))) (codes "[" ∷ (words ++ codes "]" ∷ [])) at
 in_brackets at is = enclosed at open_bracket close_bracket is
 
 -- ---- a name, with what stands in the brackets behind it
@@ -106,7 +104,7 @@ module _ (c : Context) (spot : Spot) (no_data : takes_data spot ≡ false) where
       })
 
   -- a name with brackets, and the sum inside them
-  entry_again : (p : Syntax RawIx) (name : Lexed Kind) → IsLeaf c.texts kind.Name name → (index : RawIx) → AreFit (source c) (atom_notes spot c.scope (named name.token (Some index))) → (at : ℕ)
+  entry_again : (p : Syntax RawIx) (name : Lexed Kind) → IsLeaf c.texts Kind.Name name → (index : RawIx) → AreFit (source c) (atom_notes spot c.scope (named name.token (Some index))) → (at : ℕ)
       → (Holds c.written (at + 1 + 1) (term_words (shown_in c) (vars_in c) (term_of c.texts (names_in c) c.scope index)) → IsAgainInside c p (sum_as c spot) index (at + 1 + 1))
       → Holds c.written at (words_of_atom (given (named name.token (Some index)))) → IsAgainInside c (syntax.subscripted p) (atom_as c spot) (named name.token (Some index)) at
   unfolding syntax.subscripted
@@ -125,7 +123,7 @@ module _ (c : Context) (spot : Spot) (no_data : takes_data spot ≡ false) where
       let raw = p.make found.text.derivation in
       told_as {count = length (ix_monomials index)} (sym meant) (sym words) (ap (facts_of c.texts) (sym noted)) (omega (arith, ap length (named_monomials name.token (Some index)))) (record {
         text = behind_word at is.fixed (on_left (in_brackets (at + 1) found.text));
-        means = named_means c.written (names_in c) c.again other (Some raw) ∙ (λ i. atom_is.App (table_means c name.token other is.same i) (found.means i));
+        means = named_means c.written (names_in c) c.again other (Some raw) ∙ (λ i. Atom.App (table_means c name.token other is.same i) (found.means i));
         same = ap (facts_of c.written) (named_notes spot c.again other (Some raw)) ∙ (λ i. fact_with (Used true spot) (is.same i) (c.scoped i) ∷ found.same i);
         few = omega (arith, ap length (named_monomials other (Some raw)), found.few);
       })

@@ -1,10 +1,6 @@
 -- Values are written again: the words that a value is printed as are read as the same value.
-use Rattle.spf_kernel.proofs.Common.{◌≡◌, ℕ, zero, suc, ◌+◌, ◌≤◌, ◌^◌, Bool, true, false, List, [], ◌∷◌, ◌++◌, map, flat_map, Option, None, Some, is_some, refl, ap, sym, ◌∙◌, subst, inl, inr, codes, if◌then◌else◌, list_any, bytes_eq, bundle_words, same_kind, Derivation, Lexed, Production, ◌<$>◌, flag, between, and_more, one_of, Token, Kind, symbol_fixed, Holds, stands_inside, behind_word, on_left, absent, Term, Note, Used, Scope, RawIx, out-roll-RawAtom, RawValue, RawSummand, RawFactor, Value, roll-Value, out-roll-Value, Prod, Factor, fact_of, facts_of, text_of, Names, number_of, note, value_notes, fact_notes, subscript_notes, mark, sign_word, lead_words, term_words, fact_words, prod_words, value_words, named, variable_of, table_of, data_array_of, is_data_array, bare_factor, term_of, factor_of, factor_at, product, separated, Leaves, roll-RawValue, out-roll-RawValue, Syntax, value_of}
-use Rattle.spf_lex.specs.declared.kind.Kind.TheVariants as kind
-use Rattle.spf_kernel.specs.declared.note.Says.TheVariants as says_is
-use Rattle.spf_kernel.specs.declared.note.Spot.TheVariants as spot_is
+use Rattle.spf_kernel.proofs.Common.{Spot, Says, ◌≡◌, ℕ, zero, suc, ◌+◌, ◌≤◌, ◌^◌, Bool, true, false, List, [], ◌∷◌, ◌++◌, map, flat_map, Option, None, Some, is_some, refl, ap, sym, ◌∙◌, subst, inl, inr, codes, if◌then◌else◌, list_any, bytes_eq, bundle_words, same_kind, Derivation, Lexed, Production, ◌<$>◌, flag, between, and_more, one_of, Token, Kind, symbol_fixed, Holds, stands_inside, behind_word, on_left, absent, Term, Note, Used, Scope, RawIx, out-roll-RawAtom, RawValue, RawSummand, RawFactor, Value, roll-Value, out-roll-Value, Prod, Factor, fact_of, facts_of, text_of, Names, number_of, note, value_notes, fact_notes, subscript_notes, mark, sign_word, lead_words, term_words, fact_words, prod_words, value_words, named, variable_of, table_of, data_array_of, is_data_array, bare_factor, term_of, factor_of, factor_at, product, separated, Leaves, roll-RawValue, out-roll-RawValue, Syntax, value_of}
 use Rattle.spf_kernel.specs.declared.raw.RawFactor.TheVariants as raw_factor
-use Rattle.spf_kernel.specs.declared.tree.Factor.TheVariants as factor
 use Rattle.spf_kernel.specs.Printed as printed
 use Rattle.spf_kernel.specs.Productions as syntax
 use Rattle.spf_kernel.proofs.FittingNames.{IsBare, IsEntry, entry_fits}
@@ -32,7 +28,7 @@ fact_means : (texts : List (List ℕ)) (names : Names) (scope : Scope) (name : T
 fact_means texts names scope name at = λ i. factor_at texts names scope (out-roll-RawAtom (record { name = name; at = at }) i).name (out-roll-RawAtom (record { name = name; at = at }) i).at
 
 abbrev read_by : Scope → Token → Option RawIx → List Note
-read_by scope name at = mark name says_is.Factor ∷ note name (Used (is_some at) spot_is.Factor) scope ∷ subscript_notes scope at
+read_by scope name at = mark name Says.Factor ∷ note name (Used (is_some at) Spot.Factor) scope ∷ subscript_notes scope at
 
 fact_notes_are : (scope : Scope) (name : Token) (at : Option RawIx) → fact_notes scope (name_fact name at) ≡ read_by scope name at
 fact_notes_are scope name at = λ i. read_by scope (out-roll-RawAtom (record { name = name; at = at }) i).name (out-roll-RawAtom (record { name = name; at = at }) i).at
@@ -57,13 +53,13 @@ module _ (c : Context) where
   number_factor : AreWritten s (raw_factor.Number <$> syntax.number) (fact_as c)
   number_factor d leaves fit at holds =
       let is = number_written (syntax.number.make d).value at (number_small d leaves) in
-      record { text = is.text; means = ap (λ n. factor.Number n) is.same; same = refl }
+      record { text = is.text; means = ap (λ n. Factor.Number n) is.same; same = refl }
 
   -- ---- names
 
   -- a name without brackets is printed as its text
-  bare_words : (name : Token) → IsFitting c.texts c.facts (note name (Used false spot_is.Factor) c.scope) → printed_as (factor_at c.texts names c.scope name None) ≡ text_of c.texts name ∷ []
-  bare_words name fit = by (variable_of (vars_in c) (text_of c.texts name)) (bare_is c spot_is.Factor (text_of c.texts name) fit) where
+  bare_words : (name : Token) → IsFitting c.texts c.facts (note name (Used false Spot.Factor) c.scope) → printed_as (factor_at c.texts names c.scope name None) ≡ text_of c.texts name ∷ []
+  bare_words name fit = by (variable_of (vars_in c) (text_of c.texts name)) (bare_is c Spot.Factor (text_of c.texts name) fit) where
     by : (found : Option ℕ) → IsBare c.facts (IsShown c (text_of c.texts name)) (text_of c.texts name) found → printed_as (bare_factor c.texts names found name) ≡ text_of c.texts name ∷ []
     by (Some variable) named = ap (λ word. word ∷ []) named
     by None number = ap (λ word. word ∷ []) number.named
@@ -73,29 +69,29 @@ module _ (c : Context) where
   bare_same name other e = ap (λ variable. bare_factor c.written names variable other) (variable_again c name other e) ∙ by (variable_of (vars_in c) (text_of c.texts name)) where
     by : (variable : Option ℕ) → bare_factor c.written names variable other ≡ bare_factor c.texts names variable name
     by (Some variable) = refl
-    by None = ap (λ text. factor.Param (number_of names.params text)) e
+    by None = ap (λ text. Factor.Param (number_of names.params text)) e
 
   -- a name with brackets is printed as its text too
-  entry_words_are : (name : Token) (x : RawIx) → IsFitting c.texts c.facts (note name (Used true spot_is.Factor) c.scope)
+  entry_words_are : (name : Token) (x : RawIx) → IsFitting c.texts c.facts (note name (Used true Spot.Factor) c.scope)
       → printed_as (factor_at c.texts names c.scope name (Some x)) ≡ text_of c.texts name ∷ codes "[" ∷ term_words (shown_in c) (vars_in c) (term_of c.texts names c.scope x) ++ codes "]" ∷ []
   entry_words_are name x kept = by (is_data_array c.texts names name) (entry_fits c.facts (vars_in c) (text_of c.texts name) kept) where
     after : List (List ℕ)
     after = codes "[" ∷ term_words (shown_in c) (vars_in c) (term_of c.texts names c.scope x) ++ codes "]" ∷ []
 
     by : (b : Bool) → IsEntry c.facts (text_of c.texts name) b
-        → printed_as (if b then factor.Cell (data_array_of c.texts names name) (term_of c.texts names c.scope x) else factor.Index (table_of c.texts names name) (term_of c.texts names c.scope x)) ≡ text_of c.texts name ∷ after
+        → printed_as (if b then Factor.Cell (data_array_of c.texts names name) (term_of c.texts names c.scope x) else Factor.Index (table_of c.texts names name) (term_of c.texts names c.scope x)) ≡ text_of c.texts name ∷ after
     by true number = ap (λ word. word ∷ after) number.named
     by false number = ap (λ word. word ∷ after) number.named
 
   -- the entry of the array with this text
   abbrev entry_by : List ℕ → Term → Factor
-  entry_by text sub = if list_any (bytes_eq text) names.data_arrays then factor.Cell (number_of names.data_arrays text) sub else factor.Index (number_of names.tables text) sub
+  entry_by text sub = if list_any (bytes_eq text) names.data_arrays then Factor.Cell (number_of names.data_arrays text) sub else Factor.Index (number_of names.tables text) sub
 
   read_same : (name other : Token) (at again : Option RawIx) → is_some again ≡ is_some at → text_of c.written other ≡ text_of c.texts name → facts_of c.written (subscript_notes c.again again) ≡ facts_of c.texts (subscript_notes c.scope at)
       → facts_of c.written (fact_notes c.again (name_fact other again)) ≡ facts_of c.texts (fact_notes c.scope (name_fact name at))
   read_same name other at again brackets e rest =
       same_by c.texts c.written (fact_notes_are c.again other again) (fact_notes_are c.scope name at)
-      (λ i. fact_of c.texts (mark name says_is.Factor) ∷ record { says = Used (brackets i) spot_is.Factor; name = e i; variables = c.scoped i } ∷ rest i)
+      (λ i. fact_of c.texts (mark name Says.Factor) ∷ record { says = Used (brackets i) Spot.Factor; name = e i; variables = c.scoped i } ∷ rest i)
 
   name_factor : (depth : ℕ) → AreWritten s (raw_factor.Name <$> syntax.atom (suc depth)) (fact_as c)
   unfolding Leaves syntax.atom syntax.subscripted syntax.ix
@@ -119,7 +115,7 @@ module _ (c : Context) where
       let uses = subst (AreFit s) (fact_notes_are c.scope name.token (Some raw)) fit in
       let words = ap printed_as meant ∙ entry_words_are name.token raw uses.1.0 in
       let there = subst (Holds c.written at) words holds in
-      let inside = ix_written c spot_is.Body refl depth x leaves.1.1.0 uses.1.1 (at + 1 + 1) (stands_inside c.written (at + 1) (codes "[") sub (codes "]") there.1) in
+      let inside = ix_written c Spot.Body refl depth x leaves.1.1.0 uses.1.1 (at + 1 + 1) (stands_inside c.written (at + 1) (codes "[") sub (codes "]") there.1) in
       let again = (syntax.ix depth).make inside.text.derivation in
       let is = name_written c.texts c.written name text at leaves.0 refl there.0 in
       written_by words (behind_word at is.fixed (on_left (in_brackets (at + 1) inside.text)))
@@ -140,12 +136,12 @@ module _ (c : Context) where
 
   module _ (f : Syntax RawFactor) (one : AreWritten s f (fact_as c)) where
     summand_written : {empty : Bool} (p : Production same_kind empty Bool) (sign : Bool → List (List ℕ)) → ((minus : Bool) (at : ℕ) → IsRead p (λ b. b) minus (sign minus) at)
-        → AreWritten s ((λ x. syntax.summand x.0 x.1) <$> both p (separated kind.Star f)) (worded summand_as (with_sign sign))
+        → AreWritten s ((λ x. syntax.summand x.0 x.1) <$> both p (separated Kind.Star f)) (worded summand_as (with_sign sign))
     summand_written p sign reads =
-        made_written (both p (separated kind.Star f)) (pair_of (sign_as (λ b. b) sign) facts_as) (worded summand_as (with_sign sign)) (λ x. syntax.summand x.0 x.1)
+        made_written (both p (separated Kind.Star f)) (pair_of (sign_as (λ b. b) sign) facts_as) (worded summand_as (with_sign sign)) (λ x. syntax.summand x.0 x.1)
         (record { fit = λ r fit. fit; words = λ r fit. refl; means = λ r again same i. product (same i).0 (same i).1; same = λ r again same facts. facts })
-        (both_written p (separated kind.Star f) (sign_as (λ b. b) sign) facts_as (sign_written p (λ b. b) sign reads)
-        (separated_written f (fact_as c) (symbol_fixed bundle_words kind.Star (codes "*") refl refl) one))
+        (both_written p (separated Kind.Star f) (sign_as (λ b. b) sign) facts_as (sign_written p (λ b. b) sign reads)
+        (separated_written f (fact_as c) (symbol_fixed bundle_words Kind.Star (codes "*") refl refl) one))
 
     abbrev row_words : List Prod → List (List ℕ)
     row_words = in_a_row (with_sign lead_words) (with_sign (λ minus. sign_word minus ∷ []))
@@ -178,21 +174,21 @@ module _ (c : Context) where
           same = λ r again same facts. same_by c.texts c.written (notes_rolled c.again again) (notes_rolled c.scope r) facts;
         })
         (row_written (syntax.first_summand f) (syntax.next_summand f) (worded summand_as (with_sign lead_words)) (with_sign (λ minus. sign_word minus ∷ []))
-        (summand_written (flag kind.Minus) lead_words summand_lead_written)
-        (summand_written (one_of (kind.Plus, false) ((kind.Minus, true) ∷ [])) (λ minus. sign_word minus ∷ []) summand_sign_written))
+        (summand_written (flag Kind.Minus) lead_words summand_lead_written)
+        (summand_written (one_of (Kind.Plus, false) ((Kind.Minus, true) ∷ [])) (λ minus. sign_word minus ∷ []) summand_sign_written))
 
   -- ---- values in parentheses
 
-  paren_written : (p : Syntax RawValue) → AreWritten s p (value_as c) → AreWritten s (raw_factor.Paren <$> between kind.OpenParenthesis kind.CloseParenthesis p) (fact_as c)
+  paren_written : (p : Syntax RawValue) → AreWritten s p (value_as c) → AreWritten s (raw_factor.Paren <$> between Kind.OpenParenthesis Kind.CloseParenthesis p) (fact_as c)
   paren_written p one =
-      made_written (between kind.OpenParenthesis kind.CloseParenthesis p) (worded (value_as c) (λ x. codes "(" ∷ (value_words (shown_in c) (vars_in c) x ++ codes ")" ∷ []))) (fact_as c) raw_factor.Paren
+      made_written (between Kind.OpenParenthesis Kind.CloseParenthesis p) (worded (value_as c) (λ x. codes "(" ∷ (value_words (shown_in c) (vars_in c) x ++ codes ")" ∷ []))) (fact_as c) raw_factor.Paren
       (record {
         fit = λ r. subst (AreFit s) (paren_notes_are c.scope r);
         words = λ r fit. ap printed_as (paren_is c.texts names c.scope r);
-        means = λ r again same. paren_is c.written names c.again again ∙ ap (λ (inside : Value). factor.Paren inside) same ∙ sym (paren_is c.texts names c.scope r);
+        means = λ r again same. paren_is c.written names c.again again ∙ ap (λ (inside : Value). Factor.Paren inside) same ∙ sym (paren_is c.texts names c.scope r);
         same = λ r again same facts. same_by c.texts c.written (paren_notes_are c.again again) (paren_notes_are c.scope r) facts;
       })
-      (enclosed_by (symbol_fixed bundle_words kind.OpenParenthesis (codes "(") refl refl) (symbol_fixed bundle_words kind.CloseParenthesis (codes ")") refl refl) (record { form = p; of = value_as c; again = one })).again
+      (enclosed_by (symbol_fixed bundle_words Kind.OpenParenthesis (codes "(") refl refl) (symbol_fixed bundle_words Kind.CloseParenthesis (codes ")") refl refl) (record { form = p; of = value_as c; again = one })).again
 
   -- by induction on how deep parentheses may still stand
   fact_written : (depth : ℕ) → AreWritten s (syntax.fact depth) (fact_as c)
@@ -201,7 +197,7 @@ module _ (c : Context) where
   fact_written (suc depth) =
       let value = syntax.value_of (syntax.fact depth) in
       either_written (raw_factor.Number <$> syntax.number) (syntax.nested value) (fact_as c) number_factor
-      (either_written (raw_factor.Paren <$> between kind.OpenParenthesis kind.CloseParenthesis value) syntax.plain (fact_as c) (paren_written value (sum_written (syntax.fact depth) (fact_written depth))) (name_factor 4))
+      (either_written (raw_factor.Paren <$> between Kind.OpenParenthesis Kind.CloseParenthesis value) syntax.plain (fact_as c) (paren_written value (sum_written (syntax.fact depth) (fact_written depth))) (name_factor 4))
 
   pub value_written : (depth : ℕ) → AreWritten s (syntax.value depth) (value_as c)
   unfolding syntax.value

@@ -1,17 +1,16 @@
 -- Trees that are small enough: no index expression passes 64 bits, and the sites of a loop have numbers of 32 bits.
-use Rattle.std.specs.Prelude.{ℕ, ◌<◌, ◌≤◌, ◌^◌, length, All, ⊤}
+use Rattle.std.specs.Prelude.{◌<◌, ◌≤◌, ◌^◌, length, All, ⊤}
 use Rattle.std.specs.List.{sum_by}
 use Rattle.spf_term.specs.Bounded.{IsBounded}
 use Rattle.spf_kernel.specs.BodySites.{item_sites}
 use Rattle.spf_kernel.specs.Kept.{Property, KeepsValue, KeepProds, KeepFactors, KeepsFactor, KeepsAssign, KeepsCond, KeepsGuard, KeepsPart, KeepsItem, KeepsDecl}
 use Rattle.spf_kernel.specs.TreeNames.{names_in}
 use Rattle.spf_kernel.specs.Types.{Value, Row_of-Prod, Row_of-Factor, Factor, Assign, Cond, Guard, Part, Item, Loop, Decl, Tree}
-use Rattle.spf_kernel.specs.declared.tree.Factor.TheVariants as factor_is
 
 -- an entry's index expression is bounded
 abbrev pub HasBounded : Factor → Type 0
-HasBounded (factor_is.Index array sub) = IsBounded sub
-HasBounded (factor_is.Cell array sub) = IsBounded sub
+HasBounded (Factor.Index array sub) = IsBounded sub
+HasBounded (Factor.Cell array sub) = IsBounded sub
 HasBounded fact = ⊤
 
 -- whatever variables are in scope

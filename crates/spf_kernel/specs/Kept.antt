@@ -2,10 +2,6 @@
 -- of each array that is assigned to.
 use Rattle.std.specs.Prelude.{ℕ, All, ⊤}
 use Rattle.spf_kernel.specs.Types.{Term, Value, Value', Row_of-Prod, end_of-Prod, more_of-Prod, Row_of-Factor, end_of-Factor, more_of-Factor, Factor, Assign, Cond, Guard, Part, Item, Loop, DataDecl, Decl}
-use Rattle.spf_kernel.specs.declared.tree.Factor.TheVariants as factor_is
-use Rattle.spf_kernel.specs.declared.tree.Part.TheVariants as part_is
-use Rattle.spf_kernel.specs.declared.tree.Item.TheVariants as item_is
-use Rattle.spf_kernel.specs.declared.tree.Decl.TheVariants.{Params, Index, Values}
 
 pub record Property : Type 1 where
   pub ix : Term → Type 0
@@ -26,7 +22,7 @@ module _ (p : Property) where
     KeepFactors (more_of-Factor fact others) = KeepsFactor fact × KeepFactors others
 
     pub KeepsFactor : Factor → Type 0
-    KeepsFactor (factor_is.Paren value) = KeepsValue value
+    KeepsFactor (Factor.Paren value) = KeepsValue value
     KeepsFactor fact = p.leaf fact
 
   pub record KeepsAssign (assign : Assign) : Type 0 where
@@ -43,16 +39,16 @@ module _ (p : Property) where
     pub body : All KeepsAssign guard.body
 
   abbrev pub KeepsPart : Part → Type 0
-  KeepsPart (part_is.Assign assign) = KeepsAssign assign
-  KeepsPart (part_is.Branch guard) = KeepsGuard guard
+  KeepsPart (Part.Assign assign) = KeepsAssign assign
+  KeepsPart (Part.Branch guard) = KeepsGuard guard
 
 -- of loops and declarations, given the property where so many variables are in scope: in the body of a loop its variable is,
 -- and between the braces of a `for` that of the `for` is too
 module _ (p : ℕ → Property) where
   abbrev pub KeepsItem : Item → Type 0
-  KeepsItem (item_is.Assign assign) = KeepsAssign (p 1) assign
-  KeepsItem (item_is.Branch guard) = KeepsGuard (p 1) guard
-  KeepsItem (item_is.Inner var low high parts) = (p 1).ix low × (p 1).ix high × All (KeepsPart (p 2)) parts
+  KeepsItem (Item.Assign assign) = KeepsAssign (p 1) assign
+  KeepsItem (Item.Branch guard) = KeepsGuard (p 1) guard
+  KeepsItem (Item.Inner var low high parts) = (p 1).ix low × (p 1).ix high × All (KeepsPart (p 2)) parts
 
   pub record KeepsLoop (loop : Loop) : Type 0 where
     pub low : (p 0).ix loop.low
@@ -60,6 +56,6 @@ module _ (p : ℕ → Property) where
     pub items : All KeepsItem loop.items
 
   abbrev pub KeepsDecl : Decl → Type 0
-  KeepsDecl (Params names) = ⊤
-  KeepsDecl (Index name size low high trend) = (p 0).ix size × (p 0).ix low × (p 0).ix high
-  KeepsDecl (Values arrays) = All (λ (array : DataDecl). (p 0).ix array.size) arrays
+  KeepsDecl (Decl.Params names) = ⊤
+  KeepsDecl (Decl.Index name size low high trend) = (p 0).ix size × (p 0).ix low × (p 0).ix high
+  KeepsDecl (Decl.Values arrays) = All (λ (array : DataDecl). (p 0).ix array.size) arrays

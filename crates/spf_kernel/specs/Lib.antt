@@ -2,9 +2,7 @@ pub mod Before
 pub mod BodySites
 pub mod Bounded
 pub mod Checked
-pub mod Counts
 pub mod Facts
-pub mod IsKernel
 pub mod Kept
 pub mod Named
 pub mod Names

@@ -3,7 +3,6 @@ use Rattle.std.specs.Prelude.{ℕ, ◌<◌, List, length, All, ⊤}
 use Rattle.spf_kernel.specs.Types.{Term, Term', Row_of-Mono, end_of-Mono, more_of-Mono, Var, Param, App, Factor, Decl, Tree}
 use Rattle.spf_term.specs.declared.term.Atom.{Atom}
 use Rattle.spf_kernel.specs.Kept.{Property, KeepsLoop, KeepsDecl}
-use Rattle.spf_kernel.specs.declared.tree.Factor.TheVariants as factor_is
 use Rattle.spf_kernel.specs.TreeNames.{names_in}
 
 -- how many parameters, index arrays and data arrays are declared
@@ -31,10 +30,10 @@ module _ (counts : NameCounts) (variables : ℕ) where
     IsNamedAtom (App fun arg) = (fun < counts.tables) × IsNamedTerm arg
 
   abbrev pub IsNamedLeaf : Factor → Type 0
-  IsNamedLeaf (factor_is.Param number) = number < counts.params
-  IsNamedLeaf (factor_is.Var number) = number < variables
-  IsNamedLeaf (factor_is.Index array sub) = (array < counts.tables) × IsNamedTerm sub
-  IsNamedLeaf (factor_is.Cell array sub) = (array < counts.arrays) × IsNamedTerm sub
+  IsNamedLeaf (Factor.Param number) = number < counts.params
+  IsNamedLeaf (Factor.Var number) = number < variables
+  IsNamedLeaf (Factor.Index array sub) = (array < counts.tables) × IsNamedTerm sub
+  IsNamedLeaf (Factor.Cell array sub) = (array < counts.arrays) × IsNamedTerm sub
   IsNamedLeaf fact = ⊤
 
   abbrev pub named : Property

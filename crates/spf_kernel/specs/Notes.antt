@@ -1,15 +1,8 @@
 -- The notes of a raw tree, in the order of its text.
 use Rattle.std.specs.Prelude.{ℕ, Bool, true, false, nat_lt, if◌then◌else◌, List, [], ◌∷◌, ◌++◌, Option, None, Some, is_some, map, flat_map, drop}
 use Rattle.std.specs.Option.{unwrap_or}
-use Rattle.spf_kernel.specs.Types.{Token, RawIx, RawIx', out-RawIx, Row_of-RawStep, end_of-RawStep, more_of-RawStep, RawStep, RawMono, Number', RawMono-Number-1-None', RawMono-Number-1-Some', RawAtom, out-RawAtom, RawAtom', RawAtom-at-None', RawAtom-at-Some', Row_of-RawIx, end_of-RawIx, more_of-RawIx, RawValue, RawValue', Row_of-RawFactor, end_of-RawFactor, more_of-RawFactor, Row_of-RawSummand, end_of-RawSummand, more_of-RawSummand, RawFactor, Paren', Row_of-RawValue, end_of-RawValue, more_of-RawValue, RawAssign, RawCond, RawGuard, RawPart, RawItem, RawLoop, RawSized, RawDecl, RawKernel, Note, Says, Spot, Scope}
+use Rattle.spf_kernel.specs.Types.{Sort, Token, RawIx, RawIx', out-RawIx, Row_of-RawStep, end_of-RawStep, more_of-RawStep, RawStep, RawMono, Number', RawMono-Number-1-None', RawMono-Number-1-Some', RawAtom, out-RawAtom, RawAtom', RawAtom-at-None', RawAtom-at-Some', Row_of-RawIx, end_of-RawIx, more_of-RawIx, RawValue, RawValue', Row_of-RawFactor, end_of-RawFactor, more_of-RawFactor, Row_of-RawSummand, end_of-RawSummand, more_of-RawSummand, RawFactor, Paren', Row_of-RawValue, end_of-RawValue, more_of-RawValue, RawAssign, RawCond, RawGuard, RawPart, RawItem, RawLoop, RawSized, RawDecl, RawKernel, Note, Says, Spot, Scope}
 use Rattle.spf_kernel.specs.declared.raw.RawMono.{Atom}
-use Rattle.spf_kernel.specs.declared.raw.RawFactor.TheVariants as factor_is
-use Rattle.spf_kernel.specs.declared.raw.RawPart.TheVariants as part_is
-use Rattle.spf_kernel.specs.declared.raw.RawItem.TheVariants.{Part, Inner}
-use Rattle.spf_kernel.specs.declared.raw.RawDecl.TheVariants.{Params, Index, Values}
-use Rattle.spf_kernel.specs.declared.note.Says.TheVariants.{Declared, Variable, Used, Large, Excess, Factor, Guard, Condition}
-use Rattle.spf_kernel.specs.declared.note.Spot.TheVariants as spot_is
-use Rattle.spf_kernel.specs.declared.note.Sort.TheVariants as sort_is
 use Rattle.spf_kernel.specs.Scopes.{nothing, within, inside}
 
 abbrev pub note : Token → Says → Scope → Note
@@ -41,7 +34,7 @@ number_limit false = 4194304
 
 -- a number that passes its limit
 abbrev pub number_notes : Bool → Token → List Note
-number_notes times number = if nat_lt (number_limit times) number.value then mark number Large ∷ [] else []
+number_notes times number = if nat_lt (number_limit times) number.value then mark number Says.Large ∷ [] else []
 
 -- the first tokens of all monomials, nested ones too
 abbrev mutual
@@ -67,12 +60,12 @@ abbrev mutual
 
 -- how many monomials an index expression may have
 abbrev pub monomial_limit : Spot → ℕ
-monomial_limit spot_is.Bound = 8
+monomial_limit Spot.Bound = 8
 monomial_limit spot = 64
 
 -- the monomials behind so many
 abbrev pub excess_notes : ℕ → List Token → List Note
-excess_notes room tokens = map (λ token. mark token Excess) (drop room tokens)
+excess_notes room tokens = map (λ token. mark token Says.Excess) (drop room tokens)
 
 module _ (spot : Spot) (scope : Scope) where
   abbrev mutual
@@ -89,8 +82,8 @@ module _ (spot : Spot) (scope : Scope) where
     mono_notes (Atom atom) = atom_notes atom
 
     pub atom_notes : RawAtom → List Note
-    atom_notes (RawAtom' name RawAtom-at-None') = note name (Used false spot) scope ∷ []
-    atom_notes (RawAtom' name (RawAtom-at-Some' shape at)) = note name (Used true spot) scope ∷ nested_notes at
+    atom_notes (RawAtom' name RawAtom-at-None') = note name (Says.Used false spot) scope ∷ []
+    atom_notes (RawAtom' name (RawAtom-at-Some' shape at)) = note name (Says.Used true spot) scope ∷ nested_notes at
 
     pub nested_notes : {n : _} → Row_of-RawIx n → List Note
     nested_notes end_of-RawIx = []
@@ -109,7 +102,7 @@ conds_head (cond ∷ conds) = ix_head cond.left
 
 module _ (scope : Scope) where
   abbrev pub body_notes : RawIx → List Note
-  body_notes ix = expression_notes spot_is.Body scope ix
+  body_notes ix = expression_notes Spot.Body scope ix
 
   -- what stands in the brackets behind a name
   abbrev pub subscript_notes : Option RawIx → List Note
@@ -119,7 +112,7 @@ module _ (scope : Scope) where
   -- a name as a factor
   abbrev pub read_notes : RawAtom → List Note
   read_notes atom =
-      mark (out-RawAtom atom).name Factor ∷ note (out-RawAtom atom).name (Used (is_some (out-RawAtom atom).at) spot_is.Factor) scope
+      mark (out-RawAtom atom).name Says.Factor ∷ note (out-RawAtom atom).name (Says.Used (is_some (out-RawAtom atom).at) Spot.Factor) scope
       ∷ subscript_notes (out-RawAtom atom).at
 
   abbrev mutual
@@ -135,59 +128,59 @@ module _ (scope : Scope) where
     facts_notes (more_of-RawFactor fact others) = fact_notes fact ++ facts_notes others
 
     pub fact_notes : RawFactor → List Note
-    fact_notes (factor_is.Number number) = mark number Factor ∷ []
+    fact_notes (RawFactor.Number number) = mark number Says.Factor ∷ []
     fact_notes (Paren' shape inside) = inside_notes inside
-    fact_notes (factor_is.Name atom) = read_notes atom
+    fact_notes (RawFactor.Name atom) = read_notes atom
 
     pub inside_notes : {n : _} → Row_of-RawValue n → List Note
     inside_notes end_of-RawValue = []
     inside_notes (more_of-RawValue value others) = value_notes value ++ inside_notes others
 
   abbrev pub assign_notes : RawAssign → List Note
-  assign_notes assign = note assign.array (Used true spot_is.Target) scope ∷ body_notes assign.at ++ value_notes assign.value
+  assign_notes assign = note assign.array (Says.Used true Spot.Target) scope ∷ body_notes assign.at ++ value_notes assign.value
 
   abbrev pub cond_notes : RawCond → List Note
-  cond_notes cond = mark (ix_head cond.left) Condition ∷ body_notes cond.left ++ body_notes cond.right
+  cond_notes cond = mark (ix_head cond.left) Says.Condition ∷ body_notes cond.left ++ body_notes cond.right
 
   abbrev pub guard_notes : RawGuard → List Note
-  guard_notes guard = mark (conds_head guard.conds) Guard ∷ flat_map cond_notes guard.conds ++ flat_map assign_notes guard.body
+  guard_notes guard = mark (conds_head guard.conds) Says.Guard ∷ flat_map cond_notes guard.conds ++ flat_map assign_notes guard.body
 
   abbrev pub part_notes : RawPart → List Note
-  part_notes (part_is.Assign assign) = assign_notes assign
-  part_notes (part_is.Guard guard) = guard_notes guard
+  part_notes (RawPart.Assign assign) = assign_notes assign
+  part_notes (RawPart.Guard guard) = guard_notes guard
 
 -- ---- loops
 
 -- the body of a loop, given its variable
 abbrev pub item_notes : Token → RawItem → List Note
-item_notes outer (Part part) = part_notes (within outer) part
-item_notes outer (Inner range parts) =
-    note range.var Variable (within outer) ∷ body_notes (within outer) range.low ++ body_notes (within outer) range.high
+item_notes outer (RawItem.Part part) = part_notes (within outer) part
+item_notes outer (RawItem.Inner range parts) =
+    note range.var Says.Variable (within outer) ∷ body_notes (within outer) range.low ++ body_notes (within outer) range.high
     ++ flat_map (part_notes (inside outer range.var)) parts
 
 abbrev pub bound_notes : RawIx → List Note
-bound_notes = expression_notes spot_is.Bound nothing
+bound_notes = expression_notes Spot.Bound nothing
 
 unfoldable pub loop_notes : RawLoop → List Note
 loop_notes loop =
-    note loop.name (Declared sort_is.Loop) nothing ∷ note loop.range.var Variable nothing ∷ bound_notes loop.range.low ++ bound_notes loop.range.high
+    note loop.name (Says.Declared Sort.Loop) nothing ∷ note loop.range.var Says.Variable nothing ∷ bound_notes loop.range.low ++ bound_notes loop.range.high
     ++ flat_map (item_notes loop.range.var) loop.items
 
 -- ---- declarations
 
 abbrev pub head_notes : RawIx → List Note
-head_notes = expression_notes spot_is.Head nothing
+head_notes = expression_notes Spot.Head nothing
 
 abbrev pub param_note : Token → Note
-param_note name = note name (Declared sort_is.Param) nothing
+param_note name = note name (Says.Declared Sort.Param) nothing
 
 abbrev pub cells_notes : RawSized → List Note
-cells_notes array = note array.name (Declared sort_is.Data) nothing ∷ head_notes array.size
+cells_notes array = note array.name (Says.Declared Sort.Data) nothing ∷ head_notes array.size
 
 abbrev pub decl_notes : RawDecl → List Note
-decl_notes (Params names) = map param_note names
-decl_notes (Index array low high trend) = note array.name (Declared sort_is.Index) nothing ∷ head_notes array.size ++ head_notes low ++ head_notes high
-decl_notes (Values arrays) = flat_map cells_notes arrays
+decl_notes (RawDecl.Params names) = map param_note names
+decl_notes (RawDecl.Index array low high trend) = note array.name (Says.Declared Sort.Index) nothing ∷ head_notes array.size ++ head_notes low ++ head_notes high
+decl_notes (RawDecl.Values arrays) = flat_map cells_notes arrays
 
 -- the notes of a kernel
 unfoldable pub kernel_notes : RawKernel → List Note

@@ -5,8 +5,6 @@ use Rattle.spf_kernel.specs.declared.fault.KernelFault.{KernelFault}
 use Rattle.spf_kernel.specs.declared.fault.Unkept.{Unkept}
 use Rattle.spf_lex.specs.Standing.{place_from}
 use Rattle.spf_lex.specs.Tokens.{Tokenized, IsTokenized, HasTokens, texts}
-use Rattle.spf_kernel.specs.declared.fault.KernelFault.TheVariants.{Syntax, Rule, Memory}
-use Rattle.spf_kernel.specs.declared.fault.Unkept.TheVariants as unkept
 use Rattle.spf_kernel.specs.Facts.{facts_of}
 use Rattle.spf_kernel.specs.Names.{names_of}
 use Rattle.spf_kernel.specs.Notes.{kernel_notes}
@@ -50,12 +48,12 @@ pub record IsTextOf (text : List ℕ) (tree : Tree) : Type 0 where
 -- what `judge` says of a raw tree: what it means, or the first rule that it breaks; out of memory is free
 abbrev pub IsVerdict : Tokenized → RawKernel → Result Tree Unkept → Type 0
 IsVerdict tokens raw (Ok tree) = IsUnbroken (texts tokens) (kernel_notes raw) × (tree ≡ meaning (texts tokens) raw)
-IsVerdict tokens raw (Err (unkept.Rule place rule)) = (at : ℕ) × IsFirstBreach (texts tokens) (kernel_notes raw) at rule × (place ≡ place_from tokens at)
-IsVerdict tokens raw (Err unkept.Memory) = ⊤
+IsVerdict tokens raw (Err (Unkept.Rule place rule)) = (at : ℕ) × IsFirstBreach (texts tokens) (kernel_notes raw) at rule × (place ≡ place_from tokens at)
+IsVerdict tokens raw (Err Unkept.Memory) = ⊤
 
 -- what `parse` answers; want of memory is free
 abbrev pub IsAnswer : Tokenized → ℕ → Result (Tree × ℕ) KernelFault → Type 0
 IsAnswer tokens from (Ok (tree, next)) = ParsesTo tokens from next tree
-IsAnswer tokens from (Err (Syntax place kind)) = IsSyntaxFault tokens from place kind
-IsAnswer tokens from (Err (Rule place rule next)) = IsRuleFault tokens from place rule next
-IsAnswer tokens from (Err Memory) = ⊤
+IsAnswer tokens from (Err (KernelFault.Syntax place kind)) = IsSyntaxFault tokens from place kind
+IsAnswer tokens from (Err (KernelFault.Rule place rule next)) = IsRuleFault tokens from place rule next
+IsAnswer tokens from (Err KernelFault.Memory) = ⊤

@@ -3,13 +3,6 @@ use Rattle.std.specs.Prelude.{ℕ, ℤ, ◌-◌, ◌/◌, ◌%◌, min, Bool, tr
 use Rattle.std.specs.Int.{is_negative}
 use Rattle.spf_kernel.specs.Types.{Term, Term', Row_of-Mono, end_of-Mono, more_of-Mono, Mono, Var, Param, App, Value, Value', Row_of-Prod, end_of-Prod, more_of-Prod, Row_of-Factor, end_of-Factor, more_of-Factor, Prod, Factor, Assign, Becomes, Compare, Trend, Cond, Guard, Part, Item, Loop, DataDecl, Decl, Tree, TreeNames}
 use Rattle.spf_term.specs.declared.term.Atom.{Atom}
-use Rattle.spf_kernel.specs.declared.tree.Factor.TheVariants as factor_is
-use Rattle.spf_kernel.specs.declared.tree.Becomes.TheVariants.{Put, Add}
-use Rattle.spf_kernel.specs.declared.tree.Compare.TheVariants.{Equal, Unequal, Less, AtMost, Greater, AtLeast}
-use Rattle.spf_kernel.specs.declared.tree.Trend.TheVariants.{Free, Monotone, Strict}
-use Rattle.spf_kernel.specs.declared.tree.Part.TheVariants as part_is
-use Rattle.spf_kernel.specs.declared.tree.Item.TheVariants as item_is
-use Rattle.spf_kernel.specs.declared.tree.Decl.TheVariants.{Params, Index, Values}
 use Rattle.spf_kernel.specs.TreeNames.{name_at, names_in}
 
 -- ---- lists
@@ -67,21 +60,21 @@ only_number c = lead_words (is_negative c) ++ decimal (min (unsigned_abs c) limi
 -- ---- words of their own
 
 abbrev pub becomes_word : Becomes → List ℕ
-becomes_word Put = codes "="
-becomes_word Add = codes "+="
+becomes_word Becomes.Put = codes "="
+becomes_word Becomes.Add = codes "+="
 
 abbrev pub compare_word : Compare → List ℕ
-compare_word Equal = codes "=="
-compare_word Unequal = codes "!="
-compare_word Less = codes "<"
-compare_word AtMost = codes "<="
-compare_word Greater = codes ">"
-compare_word AtLeast = codes ">="
+compare_word Compare.Equal = codes "=="
+compare_word Compare.Unequal = codes "!="
+compare_word Compare.Less = codes "<"
+compare_word Compare.AtMost = codes "<="
+compare_word Compare.Greater = codes ">"
+compare_word Compare.AtLeast = codes ">="
 
 abbrev pub trend_words : Trend → List (List ℕ)
-trend_words Free = []
-trend_words Monotone = codes "monotone" ∷ []
-trend_words Strict = codes "strict" ∷ []
+trend_words Trend.Free = []
+trend_words Trend.Monotone = codes "monotone" ∷ []
+trend_words Trend.Strict = codes "strict" ∷ []
 
 -- ---- index expressions
 
@@ -144,12 +137,12 @@ module _ (names : TreeNames) (vars : List (List ℕ)) where
     further_facts (more_of-Factor fact others) = (codes "*" ∷ fact_words fact) ++ further_facts others
 
     pub fact_words : Factor → List (List ℕ)
-    fact_words (factor_is.Number number) = decimal number ∷ []
-    fact_words (factor_is.Paren value) = codes "(" ∷ value_words value ++ codes ")" ∷ []
-    fact_words (factor_is.Param number) = name_at names.params number ∷ []
-    fact_words (factor_is.Var number) = name_at vars number ∷ []
-    fact_words (factor_is.Index array sub) = entry_words names.tables array sub
-    fact_words (factor_is.Cell array sub) = entry_words names.arrays array sub
+    fact_words (Factor.Number number) = decimal number ∷ []
+    fact_words (Factor.Paren value) = codes "(" ∷ value_words value ++ codes ")" ∷ []
+    fact_words (Factor.Param number) = name_at names.params number ∷ []
+    fact_words (Factor.Var number) = name_at vars number ∷ []
+    fact_words (Factor.Index array sub) = entry_words names.tables array sub
+    fact_words (Factor.Cell array sub) = entry_words names.arrays array sub
 
   abbrev pub prod_words : Prod → List (List ℕ)
   prod_words prod = separated (codes "*") fact_words prod.facts
@@ -166,8 +159,8 @@ module _ (names : TreeNames) (vars : List (List ℕ)) where
   guard_words guard = codes "if" ∷ separated (codes "and") cond_words guard.conds ++ block assign_words guard.body
 
   abbrev pub part_words : Part → List (List ℕ)
-  part_words (part_is.Assign assign) = assign_words assign
-  part_words (part_is.Branch guard) = guard_words guard
+  part_words (Part.Assign assign) = assign_words assign
+  part_words (Part.Branch guard) = guard_words guard
 
   -- a variable and its bounds
   abbrev pub range_words : List ℕ → Term → Term → List (List ℕ)
@@ -175,9 +168,9 @@ module _ (names : TreeNames) (vars : List (List ℕ)) where
 
 module _ (names : TreeNames) where
   abbrev pub item_words : List (List ℕ) → Item → List (List ℕ)
-  item_words vars (item_is.Assign assign) = assign_words names vars assign
-  item_words vars (item_is.Branch guard) = guard_words names vars guard
-  item_words vars (item_is.Inner var low high parts) =
+  item_words vars (Item.Assign assign) = assign_words names vars assign
+  item_words vars (Item.Branch guard) = guard_words names vars guard
+  item_words vars (Item.Inner var low high parts) =
       codes "for" ∷ range_words names vars var low high ++ block (part_words names (vars ++ var ∷ [])) parts
 
   abbrev pub loop_words : Loop → List (List ℕ)
@@ -194,10 +187,10 @@ module _ (names : TreeNames) where
   array_words array = sized_words array.name array.size
 
   abbrev pub decl_words : Decl → List (List ℕ)
-  decl_words (Params params) = codes "param" ∷ separated (codes ",") (λ name. name ∷ []) params ++ codes ";" ∷ []
-  decl_words (Index name size low high trend) =
+  decl_words (Decl.Params params) = codes "param" ∷ separated (codes ",") (λ name. name ∷ []) params ++ codes ";" ∷ []
+  decl_words (Decl.Index name size low high trend) =
       codes "index" ∷ (sized_words name size ++ (codes "in" ∷ (term_words names [] low ++ (codes ".." ∷ (term_words names [] high ++ (trend_words trend ++ codes ";" ∷ []))))))
-  decl_words (Values arrays) = codes "data" ∷ separated (codes ",") array_words arrays ++ codes ";" ∷ []
+  decl_words (Decl.Values arrays) = codes "data" ∷ separated (codes ",") array_words arrays ++ codes ";" ∷ []
 
 -- the words of a kernel, where names are printed so
 abbrev pub words_with : TreeNames → Tree → List (List ℕ)

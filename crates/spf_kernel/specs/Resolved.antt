@@ -7,17 +7,6 @@ use Rattle.spf_base.specs.Word.{IsName}
 use Rattle.spf_base.specs.Wrap.{wrap}
 use Rattle.spf_kernel.specs.Types.{Term, roll-Term, Mono, roll-Mono, Token, Scope, RawIx, RawIx', out-RawIx, Row_of-RawStep, end_of-RawStep, more_of-RawStep, RawStep, RawMono, Number', RawMono-Number-1-None', RawMono-Number-1-Some', RawAtom, out-RawAtom, RawAtom', RawAtom-at-None', RawAtom-at-Some', end_of-RawIx, more_of-RawIx, RawValue, RawValue', Row_of-RawFactor, end_of-RawFactor, more_of-RawFactor, Row_of-RawSummand, end_of-RawSummand, more_of-RawSummand, RawFactor, Paren', end_of-RawValue, more_of-RawValue, RawAssign, RawCond, RawGuard, RawPart, RawItem, RawLoop, RawSized, RawDecl, RawKernel, Note, Value, roll-Value, Prod, roll-Prod, Factor, Becomes, Assign, Cond, Guard, Part, Item, Loop, DataDecl, Decl, Trend, Tree}
 use Rattle.spf_term.specs.declared.term.Atom.{Atom}
-use Rattle.spf_term.specs.declared.term.Atom.TheVariants as atom
-use Rattle.spf_kernel.specs.declared.raw.RawMono as raw_mono
-use Rattle.spf_kernel.specs.declared.raw.RawFactor.TheVariants as raw_factor
-use Rattle.spf_kernel.specs.declared.raw.RawPart.TheVariants as raw_part
-use Rattle.spf_kernel.specs.declared.raw.RawItem.TheVariants as raw_item
-use Rattle.spf_kernel.specs.declared.raw.RawDecl.TheVariants as raw_decl
-use Rattle.spf_kernel.specs.declared.tree.Factor.TheVariants as factor
-use Rattle.spf_kernel.specs.declared.tree.Becomes.TheVariants.{Put, Add}
-use Rattle.spf_kernel.specs.declared.tree.Part.TheVariants as part
-use Rattle.spf_kernel.specs.declared.tree.Item.TheVariants as item
-use Rattle.spf_kernel.specs.declared.tree.Decl.TheVariants as decl
 use Rattle.spf_kernel.specs.Facts.{text_of, variables_in}
 use Rattle.spf_kernel.specs.Names.{Names, number_of}
 use Rattle.spf_kernel.specs.Rules.{tokens_that, is_naming}
@@ -61,19 +50,19 @@ module _ (texts : List (List ℕ)) (names : Names) where
 
   -- a name without brackets, given the variable that it is
   abbrev pub bare_atom : Option ℕ → Token → Atom
-  bare_atom (Some variable) name = atom.Var variable
-  bare_atom None name = atom.Param (param_of name)
+  bare_atom (Some variable) name = Atom.Var variable
+  bare_atom None name = Atom.Param (param_of name)
 
   abbrev pub bare_factor : Option ℕ → Token → Factor
-  bare_factor (Some variable) name = factor.Var variable
-  bare_factor None name = factor.Param (param_of name)
+  bare_factor (Some variable) name = Factor.Var variable
+  bare_factor None name = Factor.Param (param_of name)
 
 abbrev pub monomial : Bool → ℕ → Atom → List Mono
 monomial minus number atom = roll-Mono (record { coef = wrap (signed minus number); atom = atom }) ∷ []
 
 abbrev pub becomes : Bool → Becomes
-becomes true = Add
-becomes false = Put
+becomes true = Becomes.Add
+becomes false = Becomes.Put
 
 abbrev pub product : Bool → List Factor → Prod
 product minus facts = roll-Prod (record { minus = minus; facts = facts })
@@ -93,11 +82,11 @@ module _ (texts : List (List ℕ)) (names : Names) (scope : Scope) where
     pub monos_of : Bool → RawMono → List Mono
     monos_of minus (Number' number RawMono-Number-1-None') = []
     monos_of minus (Number' number (RawMono-Number-1-Some' atom)) = monomial minus number.value (atom_of atom)
-    monos_of minus (raw_mono.Atom atom) = monomial minus 1 (atom_of atom)
+    monos_of minus (RawMono.Atom atom) = monomial minus 1 (atom_of atom)
 
     pub atom_of : RawAtom → Atom
     atom_of (RawAtom' name RawAtom-at-None') = bare_atom texts names (variable_of (variables_in texts scope) (text_of texts name)) name
-    atom_of (RawAtom' name (RawAtom-at-Some' shape (more_of-RawIx ix end_of-RawIx))) = atom.App (table_of texts names name) (term_of ix)
+    atom_of (RawAtom' name (RawAtom-at-Some' shape (more_of-RawIx ix end_of-RawIx))) = Atom.App (table_of texts names name) (term_of ix)
 
   -- ---- values
 
@@ -105,7 +94,7 @@ module _ (texts : List (List ℕ)) (names : Names) (scope : Scope) where
   abbrev pub factor_at : Token → Option RawIx → Factor
   factor_at name None = bare_factor texts names (variable_of (variables_in texts scope) (text_of texts name)) name
   factor_at name (Some ix) =
-      if is_data_array texts names name then factor.Cell (data_array_of texts names name) (term_of ix) else factor.Index (table_of texts names name) (term_of ix)
+      if is_data_array texts names name then Factor.Cell (data_array_of texts names name) (term_of ix) else Factor.Index (table_of texts names name) (term_of ix)
 
   abbrev pub name_factor : RawAtom → Factor
   name_factor atom = factor_at (out-RawAtom atom).name (out-RawAtom atom).at
@@ -123,9 +112,9 @@ module _ (texts : List (List ℕ)) (names : Names) (scope : Scope) where
     more_factors (more_of-RawFactor fact others) = factor_of fact ∷ more_factors others
 
     pub factor_of : RawFactor → Factor
-    factor_of (raw_factor.Number number) = factor.Number number.value
-    factor_of (Paren' shape (more_of-RawValue inside end_of-RawValue)) = factor.Paren (value_of inside)
-    factor_of (raw_factor.Name name) = name_factor name
+    factor_of (RawFactor.Number number) = Factor.Number number.value
+    factor_of (Paren' shape (more_of-RawValue inside end_of-RawValue)) = Factor.Paren (value_of inside)
+    factor_of (RawFactor.Name name) = name_factor name
 
   -- ---- statements
 
@@ -144,18 +133,18 @@ module _ (texts : List (List ℕ)) (names : Names) (scope : Scope) where
   guard_of guard = record { conds = map cond_of guard.conds; body = map assign_of guard.body }
 
   abbrev pub part_of : RawPart → Part
-  part_of (raw_part.Assign assign) = part.Assign (assign_of assign)
-  part_of (raw_part.Guard guard) = part.Branch (guard_of guard)
+  part_of (RawPart.Assign assign) = Part.Assign (assign_of assign)
+  part_of (RawPart.Guard guard) = Part.Branch (guard_of guard)
 
 -- ---- loops and declarations
 
 module _ (texts : List (List ℕ)) (names : Names) where
   -- a part of the body of a loop, given its variable
   abbrev pub item_of : Token → RawItem → Item
-  item_of outer (raw_item.Part (raw_part.Assign assign)) = item.Assign (assign_of texts names (within outer) assign)
-  item_of outer (raw_item.Part (raw_part.Guard guard)) = item.Branch (guard_of texts names (within outer) guard)
-  item_of outer (raw_item.Inner range parts) =
-      item.Inner (text_of texts range.var) (term_of texts names (within outer) range.low) (term_of texts names (within outer) range.high)
+  item_of outer (RawItem.Part (RawPart.Assign assign)) = Item.Assign (assign_of texts names (within outer) assign)
+  item_of outer (RawItem.Part (RawPart.Guard guard)) = Item.Branch (guard_of texts names (within outer) guard)
+  item_of outer (RawItem.Inner range parts) =
+      Item.Inner (text_of texts range.var) (term_of texts names (within outer) range.low) (term_of texts names (within outer) range.high)
       (map (part_of texts names (inside outer range.var)) parts)
 
   -- an index expression with no variable in scope
@@ -175,12 +164,12 @@ module _ (texts : List (List ℕ)) (names : Names) where
   data_decl_of array = record { name = text_of texts array.name; size = head_of array.size }
 
   abbrev pub table_decl_of : RawSized → RawIx → RawIx → Trend → Decl
-  table_decl_of array low high trend = decl.Index (text_of texts array.name) (head_of array.size) (head_of low) (head_of high) trend
+  table_decl_of array low high trend = Decl.Index (text_of texts array.name) (head_of array.size) (head_of low) (head_of high) trend
 
   abbrev pub decl_of : RawDecl → Decl
-  decl_of (raw_decl.Params names) = decl.Params (map (text_of texts) names)
-  decl_of (raw_decl.Index array low high trend) = table_decl_of array low high trend
-  decl_of (raw_decl.Values arrays) = decl.Values (map data_decl_of arrays)
+  decl_of (RawDecl.Params names) = Decl.Params (map (text_of texts) names)
+  decl_of (RawDecl.Index array low high trend) = table_decl_of array low high trend
+  decl_of (RawDecl.Values arrays) = Decl.Values (map data_decl_of arrays)
 
   -- the tree that a kernel means
   abbrev pub tree_of : RawKernel → Tree

@@ -3,59 +3,56 @@ use Rattle.std.specs.Prelude.{ℕ, ◌≡◌, ◌+◌, ◌≤◌, nat_le, Bool, 
 use Rattle.std.specs.List.{list_any}
 use Rattle.std.specs.Str.{bytes_eq}
 use Rattle.std.specs.Char.{is_ascii_uppercase}
-use Rattle.spf_kernel.specs.Types.{Token, Note, Says, Spot}
-use Rattle.spf_kernel.specs.declared.note.Says.TheVariants.{Declared, Variable, Used, Large, Excess, Factor, Guard, Condition}
-use Rattle.spf_kernel.specs.declared.note.Sort.TheVariants.{Param, Index, Data, Loop}
-use Rattle.spf_kernel.specs.declared.note.Spot.TheVariants as spot_is
+use Rattle.spf_kernel.specs.Types.{Sort, Token, Note, Says, Spot}
 use Rattle.spf_kernel.specs.Facts.{Fact, fact_of, facts_of}
 
 -- ---- what a note says
 
 abbrev pub is_param : Says → Bool
-is_param (Declared Param) = true
+is_param (Says.Declared Sort.Param) = true
 is_param _ = false
 
 abbrev pub is_table : Says → Bool
-is_table (Declared Index) = true
+is_table (Says.Declared Sort.Index) = true
 is_table _ = false
 
 abbrev pub is_data : Says → Bool
-is_data (Declared Data) = true
+is_data (Says.Declared Sort.Data) = true
 is_data _ = false
 
 abbrev pub is_loop : Says → Bool
-is_loop (Declared Loop) = true
+is_loop (Says.Declared Sort.Loop) = true
 is_loop _ = false
 
 abbrev pub is_naming : Says → Bool
-is_naming (Declared sort) = true
-is_naming Variable = true
+is_naming (Says.Declared sort) = true
+is_naming Says.Variable = true
 is_naming _ = false
 
 abbrev pub is_use : Says → Bool
-is_use (Used brackets spot) = true
+is_use (Says.Used brackets spot) = true
 is_use _ = false
 
 abbrev pub is_target : Says → Bool
-is_target (Used brackets spot_is.Target) = true
+is_target (Says.Used brackets Spot.Target) = true
 is_target _ = false
 
 -- a name with brackets in a loop
 abbrev pub is_site : Says → Bool
-is_site (Used brackets spot_is.Head) = false
-is_site (Used brackets spot) = brackets
+is_site (Says.Used brackets Spot.Head) = false
+is_site (Says.Used brackets spot) = brackets
 is_site _ = false
 
 abbrev pub is_factor : Says → Bool
-is_factor Factor = true
+is_factor Says.Factor = true
 is_factor _ = false
 
 abbrev pub is_guard : Says → Bool
-is_guard Guard = true
+is_guard Says.Guard = true
 is_guard _ = false
 
 abbrev pub is_condition : Says → Bool
-is_condition Condition = true
+is_condition Says.Condition = true
 is_condition _ = false
 
 -- the tokens of the notes that say this
@@ -90,13 +87,13 @@ is_known before variables name = is_declared before name || is_in_scope variable
 
 -- where an index array and where a data array may stand
 abbrev pub takes_table : Spot → Bool
-takes_table spot_is.Body = true
-takes_table spot_is.Factor = true
+takes_table Spot.Body = true
+takes_table Spot.Factor = true
 takes_table spot = false
 
 abbrev pub takes_data : Spot → Bool
-takes_data spot_is.Factor = true
-takes_data spot_is.Target = true
+takes_data Spot.Factor = true
+takes_data Spot.Target = true
 takes_data spot = false
 
 -- the name is of a kind that may stand there, with brackets or without
@@ -105,7 +102,7 @@ fits before variables name true spot = (takes_table spot && declares is_table be
 fits before variables name false spot = is_in_scope variables name || declares is_param before name
 
 abbrev pub fits_as : List Fact → List (List ℕ) → List ℕ → Says → Bool
-fits_as before variables name (Used brackets spot) = fits before variables name brackets spot
+fits_as before variables name (Says.Used brackets spot) = fits before variables name brackets spot
 fits_as before variables name _ = true
 
 -- ---- the rules
@@ -127,7 +124,7 @@ abbrev pub is_misused : List Fact → Fact → Bool
 is_misused before fact = is_use fact.says && (is_known before fact.variables fact.name && not (fits_as before fact.variables fact.name fact.says))
 
 abbrev pub is_large_number : Says → Bool
-is_large_number Large = true
+is_large_number Says.Large = true
 is_large_number _ = false
 
 -- 5: a number of an index expression passes its limit
@@ -135,9 +132,9 @@ abbrev pub is_large : List Fact → Fact → Bool
 is_large before fact = is_large_number fact.says
 
 abbrev pub late_name : List Fact → Says → Bool
-late_name before (Declared Param) = nat_le 64 (count_that is_param before)
-late_name before (Declared Loop) = false
-late_name before (Declared array) = nat_le 64 (count_that is_table before + count_that is_data before)
+late_name before (Says.Declared Sort.Param) = nat_le 64 (count_that is_param before)
+late_name before (Says.Declared Sort.Loop) = false
+late_name before (Says.Declared array) = nat_le 64 (count_that is_table before + count_that is_data before)
 late_name before _ = false
 
 -- 6: a parameter stands behind 64, or an array behind 64
@@ -153,8 +150,8 @@ abbrev pub is_late_target : List Fact → Fact → Bool
 is_late_target before fact = is_target fact.says && nat_le 16 (count_that is_target (since is_loop before))
 
 abbrev pub late_part : List Fact → Says → Bool
-late_part before Excess = true
-late_part before Factor = nat_le 64 (count_that is_factor (since is_target before))
+late_part before Says.Excess = true
+late_part before Says.Factor = nat_le 64 (count_that is_factor (since is_target before))
 late_part before _ = false
 
 -- 9: a monomial stands behind as many as its index expression may have; a factor behind 64 of its value

@@ -1,10 +1,15 @@
--- Where a kernel stands among the tokens of a text.
-use Rattle.std.specs.Prelude.{ℕ}
-use Rattle.spf_kernel.specs.Types.{Place, TextKind, RawKernel}
+-- Which tokens are a kernel, and where one stands among the tokens of a text.
+use Rattle.std.specs.Prelude.{ℕ, List}
+use Rattle.spf_kernel.specs.Types.{Kind, Place, TextKind, RawKernel}
 use Rattle.spf_lex.specs.BundleWords.{bundle_words}
+use Rattle.spf_lex.specs.Language.{Lexed}
 use Rattle.spf_lex.specs.Standing as standing
 use Rattle.spf_lex.specs.Tokens.{Tokenized}
 use Rattle.spf_kernel.specs.Productions.{kernel}
+
+-- the tokens are a kernel with this tree: the tree of a derivation that they spell
+abbrev pub IsKernel : List (Lexed Kind) → RawKernel → Type 0
+IsKernel tokens tree = standing.Yields kernel tokens tree
 
 -- a kernel with this raw tree stands from token `from` up to token `next`
 abbrev pub StandsAt : Tokenized → ℕ → ℕ → RawKernel → Type 0

@@ -2,18 +2,17 @@
 use Rattle.std.specs.Prelude.{ℕ, List, [], ◌∷◌, map, flat_map, slice_get}
 use Rattle.std.specs.Option.{unwrap_or}
 use Rattle.spf_kernel.specs.Types.{TreeNames, Decl, DataDecl}
-use Rattle.spf_kernel.specs.declared.tree.Decl.TheVariants.{Params, Index, Values}
 
 abbrev pub params_of : Decl → List (List ℕ)
-params_of (Params names) = names
+params_of (Decl.Params names) = names
 params_of _ = []
 
 abbrev pub tables_of : Decl → List (List ℕ)
-tables_of (Index name size low high trend) = name ∷ []
+tables_of (Decl.Index name size low high trend) = name ∷ []
 tables_of _ = []
 
 abbrev pub arrays_of : Decl → List (List ℕ)
-arrays_of (Values arrays) = map (λ (array : DataDecl). array.name) arrays
+arrays_of (Decl.Values arrays) = map (λ (array : DataDecl). array.name) arrays
 arrays_of _ = []
 
 -- the names of each kind, in the order of the text

@@ -1,9 +1,11 @@
 -- The types that the definitions are about, passed on from one place. Declares nothing.
 pub use Rattle.spf_base.specs.declared.place.Place.{Place}
+pub use Rattle.spf_kernel.specs.declared.fault.Unkept.{Unkept}
 pub use Rattle.spf_kernel.specs.declared.ix.TheConstants.{BRACKETS}
 pub use Rattle.spf_kernel.specs.declared.note.Note.{Note}
 pub use Rattle.spf_kernel.specs.declared.note.Says.{Says}
 pub use Rattle.spf_kernel.specs.declared.note.Scope.{Scope}
+pub use Rattle.spf_kernel.specs.declared.note.Sort.{Sort}
 pub use Rattle.spf_kernel.specs.declared.note.Spot.{Spot}
 pub use Rattle.spf_kernel.specs.declared.raw.RawAssign.{RawAssign}
 pub use Rattle.spf_kernel.specs.declared.raw.RawAtom.{RawAtom, RawAtom', RawAtom-at-None', RawAtom-at-Some', Row_of-RawIx, end_of-RawIx, more_of-RawIx, out-RawAtom, roll-RawAtom}

@@ -5,8 +5,7 @@ ghost use Rattle.std.specs.List.{list_any};
 ghost use Rattle.std.specs.Str.{bytes_eq};
 ghost use Rattle.spf_lex.specs.Tokens.{texts};
 ghost use Rattle.spf_kernel.specs.Facts.{Fact, fact_of};
-ghost use Rattle.spf_kernel.specs.Counts.{IsBelow};
-ghost use Rattle.spf_kernel.specs.Before.{before_of};
+ghost use Rattle.spf_kernel.specs.Before.{IsBelow, before_of};
 ghost use Rattle.spf_kernel.specs.Names.{IsShort};
 
 use crate::counts::Counts;

@@ -2,7 +2,7 @@
 
 ghost use Rattle.std.specs.Prelude.{◌≡◌, ◌^◌, ℕ, List, [], ◌∷◌, ◌++◌};
 ghost use Rattle.spf_kernel.specs.Facts.{Fact, fact_of};
-ghost use Rattle.spf_kernel.specs.Counts.{counts_of, IsBelow};
+ghost use Rattle.spf_kernel.specs.Before.{IsBelow, counts_of};
 ghost use Rattle.spf_kernel.specs.Rules.{is_site};
 
 use crate::note::{Note, Says, Sort, Spot};
@@ -38,7 +38,7 @@ pub(crate) fn is_site(says: Says) -> bool
 }
 
 impl Counts {
-    #[tactic(auto, unfolding(crate::specs::Counts::counts_of))]
+    #[tactic(auto, unfolding(crate::specs::Before::counts_of))]
     pub(crate) fn new() -> Counts
         ensures { result ≡ counts_of [] }
     {

@@ -2,7 +2,7 @@
 
 ghost use Rattle.std.specs.Prelude.{◌≡◌, ◌^◌, List, ℕ};
 ghost use Rattle.spf_kernel.specs.Checked.{first_broken};
-ghost use Rattle.spf_kernel.specs.Counts.{IsBelow, counts_of};
+ghost use Rattle.spf_kernel.specs.Before.{IsBelow, counts_of};
 ghost use Rattle.spf_kernel.specs.Facts.{Fact, fact_of};
 ghost use Rattle.spf_kernel.specs.Rules.{limit_rules};
 
@@ -28,7 +28,7 @@ const MOST_CONDITIONS: usize = 4;
 const MOST_SITES: usize = 256;
 
 /// The least of rules 5 to 11 that the note breaks.
-#[tactic(auto, using(crate::proofs::Adding::is_counted))]
+#[tactic(auto, unfolding(crate::specs::Before::counts_of))]
 pub(crate) fn limit_rule(before: &Counts, note: &Note) -> Option<u32>
     requires { IsBelow (2 ^ 63) before.now }
     ensures { (texts : List (List ℕ)) (facts : List Fact) → before.now ≡ counts_of facts → result ≡ first_broken 5 limit_rules facts (fact_of texts note.now) }

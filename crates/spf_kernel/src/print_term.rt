@@ -11,7 +11,7 @@ use spf_term::{Atom, Mono, Term};
 
 /// Law: the numbers that a constant is printed as are as few within the limit as can
 /// be. A constant behind monomials is printed as its pieces, and one that is alone too, unless it is zero.
-#[tactic(auto, using(crate::proofs::PrintedConstants::pieces_sum, crate::proofs::FewestPieces::pieces_within, crate::proofs::FewestPieces::pieces_fewest, crate::proofs::FewestPieces::pieces_alone))]
+#[tactic(auto, using(crate::proofs::PrintedConstants::pieces_sum, crate::proofs::PrintedConstants::pieces_within, crate::proofs::PrintedConstants::pieces_fewest, crate::proofs::PrintedConstants::pieces_alone))]
 pub fn pieces_are_fewest()
     ensures sum { (n : ℕ) → sum (pieces n) ≡ n }
     ensures within { (n : ℕ) → All (λ piece. piece ≤ limit) (pieces n) }

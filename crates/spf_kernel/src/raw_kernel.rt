@@ -2,18 +2,14 @@
 
 ghost use Rattle.std.specs.Prelude.{◌≡◌, ◌++◌, ℕ, List, All, drop};
 ghost use Rattle.spf_base.specs.Word.{IsName};
-ghost use Rattle.spf_base.specs.declared.place.Place.{Place};
 ghost use Rattle.spf_lex.specs.BundleWords.{bundle_words};
 ghost use Rattle.spf_lex.specs.Language.{Lexed, tokens_of};
 ghost use Rattle.spf_lex.specs.Tokens.{IsTokenText, Tokenized};
-ghost use Rattle.spf_lex.specs.declared.kind.Kind.{Kind};
-ghost use Rattle.spf_lex.specs.declared.text_kind.TextKind.{TextKind};
 ghost use Rattle.spf_kernel.specs.Notes.{kernel_notes};
 ghost use Rattle.spf_kernel.specs.Facts.{text_of};
 ghost use Rattle.spf_kernel.specs.Rules.{is_naming, tokens_that};
-ghost use Rattle.spf_kernel.specs.declared.raw.RawKernel.{RawKernel};
-ghost use Rattle.spf_kernel.specs.IsKernel.{IsKernel};
-ghost use Rattle.spf_kernel.specs.Stands.{IsSyntaxFault, StandsAt};
+ghost use Rattle.spf_kernel.specs.Types.{Kind, Place, RawKernel, TextKind};
+ghost use Rattle.spf_kernel.specs.Stands.{IsKernel, IsSyntaxFault, StandsAt};
 
 /// Law: tokens are a kernel with one tree.
 pub fn one_raw_tree()

@@ -15,7 +15,6 @@ mod loops;
 mod statements;
 mod terms;
 mod values;
-mod variables;
 
 use crate::names::Source;
 use crate::note::Scope;

@@ -4,8 +4,7 @@ ghost use Rattle.std.specs.Prelude.{◌≡◌, ◌^◌, ◌⊎◌, List, [], ◌
 ghost use Rattle.spf_lex.specs.Tokens.{texts};
 ghost use Rattle.spf_kernel.specs.declared.note.Note.{Note};
 ghost use Rattle.spf_kernel.specs.Facts.{Fact, fact_of, facts_of};
-ghost use Rattle.spf_kernel.specs.Before.{before_of};
-ghost use Rattle.spf_kernel.specs.Counts.{IsBelow};
+ghost use Rattle.spf_kernel.specs.Before.{IsBelow, before_of};
 ghost use Rattle.spf_kernel.specs.Checked.{least_rule, Precedes, IsFirst, Checked};
 
 use crate::before::Before;

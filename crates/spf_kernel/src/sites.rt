@@ -1,15 +1,15 @@
 //! Counting the data sites of a tree.
 
-ghost use Rattle.std.specs.Prelude.{◌≡◌, ◌≤◌};
+ghost use Rattle.std.specs.Prelude.{ℕ, ◌≡◌, ◌≤◌};
 ghost use Rattle.std.specs.List.{sum_by};
-ghost use Rattle.spf_kernel.specs.Sites.{assign_sites, data_sites, fact_sites, guard_sites, item_sites, loop_sites, part_sites, prod_sites, value_sites};
+ghost use Rattle.spf_kernel.specs.Sites.{assign_sites, data_sites, fact_sites, guard_sites, item_sites, loop_sites, of_data, part_sites, prod_sites, value_sites};
 
 use crate::tree::{Assign, Factor, Guard, Item, Loop, Part, Prod, Tree, Value};
 
 #[cycle(value_sites)]
 fn fact_sites(fact: &Factor) -> u32
-    requires { fact_sites fact.now ≤ 256 }
-    ensures { result ≡ fact_sites fact.now }
+    requires { fact_sites of_data fact.now ≤ 256 }
+    ensures { result ≡ fact_sites of_data fact.now }
 {
     match fact {
         Factor::Paren(inside) => value_sites(inside),
@@ -20,8 +20,8 @@ fn fact_sites(fact: &Factor) -> u32
 
 #[cycle(value_sites)]
 fn prod_sites(prod: &Prod) -> u32
-    requires { prod_sites prod.now ≤ 256 }
-    ensures { result ≡ prod_sites prod.now }
+    requires { prod_sites of_data prod.now ≤ 256 }
+    ensures { result ≡ prod_sites of_data prod.now }
 {
     let mut count = 0;
     for fact in prod.facts.as_slice() {
@@ -32,8 +32,8 @@ fn prod_sites(prod: &Prod) -> u32
 
 #[cycle(value_sites)]
 fn value_sites(value: &Value) -> u32
-    requires { value_sites value.now ≤ 256 }
-    ensures { result ≡ value_sites value.now }
+    requires { value_sites of_data value.now ≤ 256 }
+    ensures { result ≡ value_sites of_data value.now }
 {
     let mut count = 0;
     for prod in value.prods.as_slice() {
@@ -42,66 +42,74 @@ fn value_sites(value: &Value) -> u32
     count
 }
 
-/// The target, and the sites of the value.
-fn assign_sites(assign: &Assign) -> u32
-    requires { assign_sites assign.now ≤ 256 }
-    ensures { result ≡ assign_sites assign.now }
-{
-    1 + value_sites(&assign.value)
+/// A part of a tree that has data sites.
+trait HasSites {
+    ghost sites: { Self → ℕ };
+
+    /// How many it has. Linear in it.
+    fn count(&self) -> u32
+        requires { sites self.now ≤ 256 }
+        ensures { result ≡ sites self.now };
 }
 
-fn guard_sites(guard: &Guard) -> u32
-    requires { guard_sites guard.now ≤ 256 }
-    ensures { result ≡ guard_sites guard.now }
+/// How many the parts have.
+fn sum<T: HasSites>(parts: &[T]) -> u32
+    requires { sum_by T.sites parts.now ≤ 256 }
+    ensures { result ≡ sum_by T.sites parts.now }
 {
-    let mut count = 0;
-    for assign in guard.body.as_slice() {
-        count += assign_sites(assign);
-    }
-    count
-}
-
-fn part_sites(part: &Part) -> u32
-    requires { part_sites part.now ≤ 256 }
-    ensures { result ≡ part_sites part.now }
-{
-    match part {
-        Part::Assign(assign) => assign_sites(assign),
-        Part::Branch(guard) => guard_sites(guard),
-    }
-}
-
-fn parts_sites(parts: &[Part]) -> u32
-    requires { sum_by part_sites parts.now ≤ 256 }
-    ensures { result ≡ sum_by part_sites parts.now }
-{
-    let mut count = 0;
+    let mut sum = 0;
     for part in parts {
-        count += part_sites(part);
+        sum += part.count();
     }
-    count
+    sum
 }
 
-fn item_sites(item: &Item) -> u32
-    requires { item_sites item.now ≤ 256 }
-    ensures { result ≡ item_sites item.now }
-{
-    match item {
-        Item::Assign(assign) => assign_sites(assign),
-        Item::Branch(guard) => guard_sites(guard),
-        Item::Inner { parts, .. } => parts_sites(parts.as_slice()),
+impl HasSites for Assign {
+    ghost sites = { assign_sites of_data };
+
+    /// The target, and the sites of the value.
+    fn count(&self) -> u32 {
+        1 + value_sites(&self.value)
     }
 }
 
-fn loop_sites(of: &Loop) -> u32
-    requires { loop_sites of.now ≤ 256 }
-    ensures { result ≡ loop_sites of.now }
+#[tactic(auto, using(crate::proofs::SiteSums::no_conds))]
+fn guard_sites(guard: &Guard) -> u32
+    requires { guard_sites of_data guard.now ≤ 256 }
+    ensures { result ≡ guard_sites of_data guard.now }
 {
-    let mut count = 0;
-    for item in of.items.as_slice() {
-        count += item_sites(item);
+    sum(guard.body.as_slice())
+}
+
+impl HasSites for Part {
+    ghost sites = { part_sites of_data };
+
+    fn count(&self) -> u32 {
+        match self {
+            Part::Assign(assign) => assign.count(),
+            Part::Branch(guard) => guard_sites(guard),
+        }
     }
-    count
+}
+
+impl HasSites for Item {
+    ghost sites = { item_sites of_data };
+
+    fn count(&self) -> u32 {
+        match self {
+            Item::Assign(assign) => assign.count(),
+            Item::Branch(guard) => guard_sites(guard),
+            Item::Inner { parts, .. } => sum(parts.as_slice()),
+        }
+    }
+}
+
+impl HasSites for Loop {
+    ghost sites = { loop_sites of_data };
+
+    fn count(&self) -> u32 {
+        sum(self.items.as_slice())
+    }
 }
 
 /// How many data sites the loops have. Linear in the tree.
@@ -109,9 +117,5 @@ pub fn data_sites(tree: &Tree) -> u32
     requires { data_sites tree.now ≤ 256 }
     ensures { result ≡ data_sites tree.now }
 {
-    let mut count = 0;
-    for each in tree.loops.as_slice() {
-        count += loop_sites(each);
-    }
-    count
+    sum(tree.loops.as_slice())
 }

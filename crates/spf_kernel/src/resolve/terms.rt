@@ -9,9 +9,8 @@ ghost use Rattle.spf_kernel.specs.Resolved.{signed, alone_of, constant_of, varia
 use crate::names::{Source, text_of};
 use crate::note::Scope;
 use crate::raw::{RawAtom, RawIx, RawMono};
-use crate::resolve::variables::variable;
 use spf_base::{NoMemory, wadd, wsub};
-use spf_lex::Token;
+use spf_lex::{Token, Tokens};
 use spf_term::{Atom, Mono, Term};
 use sqlite_items::Items;
 
@@ -46,6 +45,18 @@ fn constant(ix: &RawIx) -> i64
         constant = wadd(constant, alone(step.minus.is_some(), &step.mono));
     }
     constant
+}
+
+/// The number of the variable in scope that has this name.
+pub(super) fn variable(tokens: &Tokens, scope: Scope, name: Token) -> Option<u32>
+    ensures { result ≡ variable_of (variables_in (texts tokens.now) scope) (text_of (texts tokens.now) name) }
+{
+    let name = text_of(tokens, name);
+    match scope {
+        Scope::Within(outer) | Scope::Inside(outer, _) if name == text_of(tokens, outer) => Some(0),
+        Scope::Inside(_, inner) if name == text_of(tokens, inner) => Some(1),
+        _ => None,
+    }
 }
 
 /// A name without brackets.

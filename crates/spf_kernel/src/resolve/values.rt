@@ -8,8 +8,7 @@ ghost use Rattle.spf_kernel.specs.Resolved.{variable_of, bare_factor, name_facto
 use crate::names::{Source, text_of};
 use crate::note::Scope;
 use crate::raw::{RawAtom, RawFactor, RawSummand, RawValue};
-use crate::resolve::terms::resolve_ix;
-use crate::resolve::variables::variable;
+use crate::resolve::terms::{resolve_ix, variable};
 use crate::tree::{Factor, Prod, Value};
 use spf_base::NoMemory;
 use spf_lex::Token;
