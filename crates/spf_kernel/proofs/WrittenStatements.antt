@@ -1,6 +1,5 @@
 -- Assignments, conditions, guarded assignments and ranges are written again.
 use Rattle.spf_kernel.proofs.Common.{Assign, Cond, Guard, Says, Kind, ◌≡◌, ℕ, Bool, true, false, List, [], ◌∷◌, ◌++◌, refl, ap, codes, bundle_words, ◌<$>◌, small_fixed, symbol_fixed, Term, Spot, RawIx, RawValue, RawAssign, RawCond, RawGuard, RawRange, RawPart, Value, fact_of, text_of, fact_with, Names, number_of, expression_notes, assign_notes, cond_notes, guard_notes, part_notes, conds_head, mark, becomes_word, compare_word, assign_words, cond_words, part_words, range_words, term_of, assign_of, cond_of, guard_of, part_of, is_data, takes_data, Part, ix_head, guard_words, becomes}
-use Rattle.spf_kernel.specs.Printed as printed
 use Rattle.spf_kernel.specs.Productions as syntax
 use Rattle.spf_kernel.proofs.FittingNames.{number_declared}
 use Rattle.spf_kernel.proofs.Written.{in_scope, IsFixedWord, Source, Context, source, names_in, shown_in, Meaning, AreWritten, vars_in}

@@ -28,12 +28,7 @@ fn push_head(words: &mut Words, shown: &Shown, term: &Term) -> Result<(), NoMemo
 }
 
 /// Writes the name of an array and its size.
-fn push_sized(
-    words: &mut Words,
-    shown: &Shown,
-    name: &Name,
-    size: &Term,
-) -> Result<(), NoMemory>
+fn push_sized(words: &mut Words, shown: &Shown, name: &Name, size: &Term) -> Result<(), NoMemory>
     ensures { OnOk result (words.new ≡ words.old ++ sized_words shown.now.names.now name.now size.now) }
 {
     words.push_name(name)?;
