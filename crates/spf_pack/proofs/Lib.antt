@@ -1,0 +1,6 @@
+mod Lengths
+mod Listed
+mod Ordered
+mod Packed
+mod Reach
+mod Turned

@@ -1,0 +1,29 @@
+-- The places that are listed make a packing.
+use Rattle.std.proofs.Common.{◌≡◌, ℕ, ◌<◌, true, List, [], ◌++◌, length, All, Result, Ok, Err, inr, refl, sym, ap, subst, ◌∙◌, eqb, arith}
+use Rattle.std.specs.List.{IsDistinct}
+use Rattle.spf_perm.proofs.Bijections.{reached}
+use Rattle.spf_perm.specs.Perm.{AreInverse, IsMade, IsPerm, IsPermOf}
+use Rattle.spf_perm.specs.declared.perm_fault.PermFault.{PermFault}
+use Rattle.spf_perm.specs.declared.perm_fault.PermFault.TheVariants.{OutOfRange, NotPerm, Memory}
+use Rattle.spf_pack.specs.FirstTouch.{all_listed, first_touch_order, is_in, once}
+use Rattle.spf_pack.proofs.Listed.{all_append, all_distinct, all_has, distinct_perm, in_at, nothing_distinct, place_in}
+use Rattle.spf_pack.proofs.Turned.{inverse_in_turn}
+
+module _ (touched now back order : List ℕ) (is : IsPerm back) (inverse : AreInverse now back) (listed : order ≡ all_listed (all_listed [] touched) back) where
+  pub order_is : order ≡ first_touch_order touched now
+  order_is = listed ∙ sym (all_append [] touched back) ∙ ap (λ (l : List ℕ). once (touched ++ l)) (inverse_in_turn now back is inverse)
+
+  back_has : (y : ℕ) → y < length back → is_in back y ≡ true
+  back_has y lt = let r = reached back is y lt in subst (λ x. is_in back x ≡ true) r.2 (in_at back r.0 0 r.1)
+
+  pub order_perm : All (λ x. x < length back) order → IsPerm order
+  order_perm below =
+      distinct_perm order (length back) is.few (subst (IsDistinct eqb) (sym listed) (all_distinct (all_listed [] touched) back (all_distinct [] touched nothing_distinct)))
+      (λ y h. let at = place_in order y h in subst (λ x. x < length back) (at.2 0) (below at.0 0 at.1)) (λ y lt. rw listed (all_has (all_listed [] touched) back y (inr (back_has y lt))))
+
+-- a list that is a permutation is refused for want of memory alone
+pub perm_made : (list : List ℕ) (answer : Result (List ℕ) PermFault) → IsPerm list → IsPermOf list answer → IsMade IsPerm answer
+perm_made list (Ok perm) is of = rw of.0 is
+perm_made list (Err (OutOfRange place)) is of = absurd (omega (arith, is.below place of.there, of.outside))
+perm_made list (Err (NotPerm first second)) is of = absurd (omega (arith, is.distinct first second (omega (arith, of.1.order, of.1.there)) of.1.there of.1.same, of.1.order))
+perm_made list (Err Memory) is of = refl

@@ -1,0 +1,11 @@
+use Rattle.std.proofs.Common.{subst}
+use Rattle.spf_pack.specs.FirstTouch.{IsFirstTouchPacking}
+use Rattle.spf_pack.specs.Packs.{first_packing, touched_by}
+use Rattle.spf_pack.proofs.Ordered.{one_in_order}
+use Rattle.spf_pack.proofs.Turned.{one_inverse}
+use Rattle.spf_pack.proofs.laws.one_tilepacking.Goals as goal
+
+pub returns : goal.returns
+returns c touches shape places members now a b perm_a perm_b is_a is_b =
+    let same = one_in_order shape places is_a.units is_b.units is_a.ordered is_b.ordered in
+    one_inverse _ a b perm_a (subst (λ units. IsFirstTouchPacking (touched_by touches shape.arrays members units) (first_packing members now) a) same is_a.first) is_b.first

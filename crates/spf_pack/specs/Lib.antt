@@ -1,0 +1,4 @@
+pub mod FirstTouch
+pub mod InOrder
+pub mod Listings
+pub mod Packs

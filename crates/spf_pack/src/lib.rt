@@ -1,0 +1,20 @@
+//! Packings of data arrays in the order in which their places are first touched.
+//!
+//! `cpack` goes through the iterations of one loop in their current order, `tilepack` through all units in the order of their
+//! places. Each takes the touches of the listed arrays, and gives the touched places in the order of their first touch, and
+//! then the other places by the present packing (`IsFirstTouchPacking`). Upward the crate gives this contract, the law that
+//! the second leaves no choice (`one_tilepacking`), and the units in the order of their places (`units_in_order`).
+//!
+//! It stands on spf_touch for touch lists, on spf_space for shapes and places, and on spf_perm for orders and packings. A
+//! call looks at each touch once, at a cost that is linear in the listed arrays, and keeps some 13 bytes for each place.
+#![tactic(auto)]
+
+mod in_order;
+mod laws;
+mod listing;
+mod members;
+mod packs;
+
+pub use in_order::units_in_order;
+pub use laws::one_tilepacking;
+pub use packs::{cpack, tilepack};
