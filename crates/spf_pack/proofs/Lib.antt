@@ -1,5 +1,6 @@
 mod Lengths
 mod Listed
+mod OneOrder
 mod Ordered
 mod Packed
 mod Reach

@@ -6,7 +6,7 @@
 //! the second leaves no choice (`one_tilepacking`), and the units in the order of their places (`units_in_order`).
 //!
 //! It stands on spf_touch for touch lists, on spf_space for shapes and places, and on spf_perm for orders and packings. A
-//! call looks at each touch once, at a cost that is linear in the listed arrays, and keeps some 13 bytes for each place.
+//! call looks at each touch once, at a cost that is linear in the listed arrays, and takes some 9 bytes for each place.
 #![tactic(auto)]
 
 mod in_order;

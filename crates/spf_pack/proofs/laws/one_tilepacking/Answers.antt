@@ -1,7 +1,7 @@
 use Rattle.std.proofs.Common.{subst}
 use Rattle.spf_pack.specs.FirstTouch.{IsFirstTouchPacking}
 use Rattle.spf_pack.specs.Packs.{first_packing, touched_by}
-use Rattle.spf_pack.proofs.Ordered.{one_in_order}
+use Rattle.spf_pack.proofs.OneOrder.{one_in_order}
 use Rattle.spf_pack.proofs.Turned.{one_inverse}
 use Rattle.spf_pack.proofs.laws.one_tilepacking.Goals as goal
 
