@@ -94,6 +94,32 @@ fn bundles_are_run(rt: HostRuntime) -> Result<(), Fail> {
 }
 
 #[test]
+fn plans_are_shown(rt: HostRuntime) -> Result<(), Fail> {
+    let rows: [(&[u8], &[u8]); 3] = [
+        (
+            b"spf 1 kernel { param n; data x[n]; steps 0; loop a (i in 0 .. n) { x[i] = x[i] + 1; } } script { } input { n = 0; x = ; }",
+            b"loop a\ndata x\ntiles 1\nbefore 0\n",
+        ),
+        // the order of a loop that begins below 0
+        (
+            b"spf 1 kernel { index k[3] in 0 .. 3; data x[3]; steps 1; loop a (i in -1 .. 2) { x[k[i + 1]] = 7; } } script { lexgroup a by x; } input { k = 2 0 1; x = 1 2 3; }",
+            b"loop a 0 1 -1\ndata x 0 1 2\ntiles 1\nat 0 a 0 0 0\nbefore 0\n",
+        ),
+        (
+            b"spf 1 kernel { param n; data x[n]; steps 1; loop a (i in 1 .. n) { x[i] += x[i - 1]; } } script { tile a at 0 seed block 3; } input { n = 4; x = 1 1 1 1; }",
+            b"loop a 1 2 3\ndata x 0 1 2 3\ntiles 3\nat 0 a 0 1 2\nbefore 0\nbefore 1 0\nbefore 2 0 1\n",
+        ),
+    ];
+    for (input, text) in rows {
+        let ran = run(rt.alloc(), &["plan"], input, &[], &[])?;
+        assert_eq!(rt; ran.status, 0);
+        assert_eq!(rt; ran.out.as_slice(), text);
+        assert!(rt; ran.err.is_empty());
+    }
+    Ok(())
+}
+
+#[test]
 fn refusals_are_told_with_their_places(rt: HostRuntime) -> Result<(), Fail> {
     let rows: [(&[u8], u8, &[u8]); 19] = [
         (b"", 5, b"text: 1:1 end\n"),
@@ -414,11 +440,12 @@ fn one_byte_more_than_64_mib_is_too_many(rt: HostRuntime) -> Result<(), Fail> {
 #[test]
 fn a_refused_word_and_a_device_that_fails_are_told(rt: HostRuntime) -> Result<(), Fail> {
     // The words, the calls of the source and of the sink that fail, the exit status, and what stands on both sinks.
-    let rows: [(&[&str], &[u32], &[u32], u8, &[u8], &[u8]); 6] = [
+    let rows: [(&[&str], &[u32], &[u32], u8, &[u8], &[u8]); 7] = [
         (&[], &[], &[], 2, b"", b"usage: word 1\n"),
         (&["walk"], &[], &[], 2, b"", b"usage: word 1\n"),
         (&["run", "--trace"], &[], &[], 2, b"", b"usage: word 2\n"),
         (&["run", "run", "run"], &[], &[], 2, b"", b"usage: word 2\n"),
+        (&["plan", "run"], &[], &[], 2, b"", b"usage: word 2\n"),
         (&["run"], &[1], &[], 3, b"", b"read fault\n"),
         (&["run"], &[], &[1], 4, b"x 2", b"write fault\n"),
     ];
