@@ -24,8 +24,9 @@ try:
 cases: spf
 	cases/run bin/spf
 
-# How fast the proved program reads, beside `wc -w`, how fast it walks and runs, and what layers and orders cost.
+# How fast the proved program reads, beside `wc -w`, how fast it walks and runs, and what layers, orders and tiles cost.
 bench: spf
 	bench/reading bin/spf
 	bench/running bin/spf
 	bench/ordering bin/spf
+	bench/tiling bin/spf
