@@ -76,11 +76,11 @@ module _ (var : ℕ) where
         let before = parts var (normal by) (out-Term (normal term)).monos in
         let after = parts var by monos in
         let weighs : (weight : Atom → ℤ) → weighed weight (all_added (map normal_mono before)) ≡ weighed weight (map normal_mono after) = λ weight.
-            all_normal_weighed weight before ∙ parts_weighed (normal by) weight (out-Term (normal term)).monos ∙ ap (weighed (moved (normal by) weight)) (normal_monos_are term)
-            ∙ all_normal_weighed (moved (normal by) weight) monos ∙ same weight ∙ sym (parts_weighed by weight monos) ∙ sym (weighed_normal weight after) in
+        all_normal_weighed weight before ∙ parts_weighed (normal by) weight (out-Term (normal term)).monos ∙ ap (weighed (moved (normal by) weight)) (normal_monos_are term)
+        ∙ all_normal_weighed (moved (normal by) weight) monos ∙ same weight ∙ sym (parts_weighed by weight monos) ∙ sym (weighed_normal weight after) in
         let constant : constants var (normal by) (out-Term (normal term)).monos ≡ constants var by monos =
-            constants_weighed (normal by) (out-Term (normal term)).monos ∙ ap (weighed (moved_constant (normal by))) (normal_monos_are term) ∙ all_normal_weighed (moved_constant (normal by)) monos
-            ∙ weighed_same (of_normal (moved_constant (normal by))) (moved_constant by) same_constant monos ∙ sym (constants_weighed by monos) in
+        constants_weighed (normal by) (out-Term (normal term)).monos ∙ ap (weighed (moved_constant (normal by))) (normal_monos_are term) ∙ all_normal_weighed (moved_constant (normal by)) monos
+        ∙ weighed_same (of_normal (moved_constant (normal by))) (moved_constant by) same_constant monos ∙ sym (constants_weighed by monos) in
         normal_substituted_is var (normal by) (normal term)
         ∙ (λ i. sum_of (added_up (all_added (map normal_mono before)) (map normal_mono after) (all_normal (map normal_mono before) (each_normal before)) (each_normal after) weighs i) (normal_constant_is term i +ℤ constant i))
         ∙ sym (normal_substituted_is var by term)

@@ -7,11 +7,13 @@
 //! first entry outside its table.
 //!
 //! The normal form of a term (`normal` in specs/Normal.antt) has its monomials in order, each atom once, no coefficient 0,
-//! and normal arguments; two laws say that it is normal and keeps the value. `excess` tells where a term passes the number
-//! rule.
+//! and normal arguments; laws say that it is normal and keeps the value. `normal` and `substitute` make it, and test the
+//! number rule on the terms that they are given and on what they make of them (`IsTested`): `excess` tells where a term
+//! passes it. While it is made, numbers have 128 bits (src/wide.rt), since those that pass 64 bits may cancel again.
 //!
-//! The crate stands on the arithmetic of spf_base and on the kit's lists. Each call is linear in the term, takes no memory,
-//! and recurses as deep as the term nests.
+//! The crate stands on the arithmetic of spf_base and on the kit's lists. `copy`, `normal` and `substitute` take memory, the
+//! other calls none and are linear in the term. Each call recurses as deep as the term nests: with 8 MB of stack a term that
+//! nests 16,383 deep is made normal, and one that nests 8,000 deep is substituted in another.
 #![tactic(auto)]
 
 mod bounded;

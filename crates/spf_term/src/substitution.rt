@@ -9,9 +9,6 @@ ghost use Rattle.spf_term.specs.Value.{value};
 ghost use Rattle.spf_term.specs.Wide.{plain, plain_atom, plain_mono};
 ghost use Rattle.spf_term.specs.declared.term.Term.{Term, out-Term};
 
-use spf_base::NoMemory;
-use std::alloc::Global;
-
 use crate::collect::collected;
 use crate::fault::TermFault;
 use crate::narrow::tested;
@@ -19,6 +16,8 @@ use crate::normals::{normal_form, normal_wide_atom};
 use crate::number_rule::excess;
 use crate::term::{Atom, Term};
 use crate::wide::{WideAtom, WideMono, WideTerm};
+use spf_base::NoMemory;
+use std::alloc::Global;
 
 fn is_variable(var: u32, atom: &Atom) -> bool
     ensures { result ≡ is_variable var atom.now }
@@ -82,12 +81,7 @@ fn substituted_wide_atom(
 /// The normal form of the term with `by` in place of the variable, with wide numbers. For n monomials with those that come
 /// in place of the variable, nested ones counted, it takes n log n comparisons of atoms and memory for n.
 #[cycle(substituted)]
-fn substituted_wide(
-    alloc: Global,
-    term: &Term,
-    var: u32,
-    by: &Term,
-) -> Result<WideTerm, NoMemory>
+fn substituted_wide(alloc: Global, term: &Term, var: u32, by: &Term) -> Result<WideTerm, NoMemory>
     requires normal { IsNormal term.now }
     requires keeps { excess term.now ≡ None }
     requires normal_by { IsNormal by.now }
@@ -115,12 +109,7 @@ fn substituted_wide(
 }
 
 /// The normal form of normal terms' substitution.
-fn substituted_form(
-    alloc: Global,
-    term: &Term,
-    var: u32,
-    by: &Term,
-) -> Result<Term, TermFault>
+fn substituted_form(alloc: Global, term: &Term, var: u32, by: &Term) -> Result<Term, TermFault>
     requires normal { IsNormal term.now }
     requires keeps { excess term.now ≡ None }
     requires normal_by { IsNormal by.now }

@@ -22,9 +22,9 @@ substituted_wide-overflow_add-constant t c =
     let right = to_z-of_z w64 (out-Term c.args.by.now).constant (search rules) in
     let added = to_z-of_z w128 c.product.result (search rules) ∙ c.product.ensures ∙ (λ i. left i *ℤ right i) in
     let sum =
-        ap (λ (of : ℤ). to_z w128 c.loop-mono.constant-bits +ℤ of) added
-        ∙ constant_more c.args.var c.args.by.now c.as_slice-mono-items.result.now c.loop-mono.mono-index c.mono-item.result c.loop-mono-test.true c.mono-item.is (out-Term c.args.term.now).constant (to_z w128 c.loop-mono.constant-bits) (c.mono-item.result.coef *ℤ (out-Term c.args.by.now).constant)
-        (ap (λ test. if test then c.mono-item.result.coef *ℤ (out-Term c.args.by.now).constant else pos 0) is) c.loop-mono.invariant.sum in
+    ap (λ (of : ℤ). to_z w128 c.loop-mono.constant-bits +ℤ of) added
+    ∙ constant_more c.args.var c.args.by.now c.as_slice-mono-items.result.now c.loop-mono.mono-index c.mono-item.result c.loop-mono-test.true c.mono-item.is (out-Term c.args.term.now).constant (to_z w128 c.loop-mono.constant-bits) (c.mono-item.result.coef *ℤ (out-Term c.args.by.now).constant)
+    (ap (λ test. if test then c.mono-item.result.coef *ℤ (out-Term c.args.by.now).constant else pos 0) is) c.loop-mono.invariant.sum in
     subst (FitsSigned w128) (sym sum) (constant_fits c.args.var c.args.by.now c.requires.normal_by c.requires.keeps_by c.args.term.now c.requires.normal c.requires.keeps c.as_slice-mono-items.result.now c.as_slice-mono-items.ensures (c.loop-mono.mono-index + 1))
 
 pub substituted_wide-substituted_wide_atom-requires : goal.substituted_wide-substituted_wide_atom-requires
@@ -35,18 +35,18 @@ substituted_wide-substituted_wide_atom-requires t c =
 
 pub substituted_wide-loop-mono-preserved : goal.substituted_wide-loop-mono-preserved
 substituted_wide-loop-mono-preserved t c = elim c.if-is_variable.branch [
-    substituted_wide-then-is_variable+in_ok-push_scaled w ↦
+  | substituted_wide-then-is_variable+in_ok-push_scaled w ↦
       let is = sym c.is_variable.ensures ∙ w.if-is_variable.true in
       let left = to_z-of_z w64 c.mono-item.result.coef (search rules) in
       let right = to_z-of_z w64 (out-Term c.args.by.now).constant (search rules) in
       let added = to_z-of_z w128 w.product.result (search rules) ∙ w.product.ensures ∙ (λ i. left i *ℤ right i) in
       let sum =
-          ap (λ (of : ℤ). to_z w128 c.loop-mono.constant-bits +ℤ of) added
-          ∙ constant_more c.args.var c.args.by.now c.as_slice-mono-items.result.now c.loop-mono.mono-index c.mono-item.result c.loop-mono-test.true c.mono-item.is (out-Term c.args.term.now).constant (to_z w128 c.loop-mono.constant-bits) (c.mono-item.result.coef *ℤ (out-Term c.args.by.now).constant)
-          (ap (λ test. if test then c.mono-item.result.coef *ℤ (out-Term c.args.by.now).constant else pos 0) is) c.loop-mono.invariant.sum in
+      ap (λ (of : ℤ). to_z w128 c.loop-mono.constant-bits +ℤ of) added
+      ∙ constant_more c.args.var c.args.by.now c.as_slice-mono-items.result.now c.loop-mono.mono-index c.mono-item.result c.loop-mono-test.true c.mono-item.is (out-Term c.args.term.now).constant (to_z w128 c.loop-mono.constant-bits) (c.mono-item.result.coef *ℤ (out-Term c.args.by.now).constant)
+      (ap (λ test. if test then c.mono-item.result.coef *ℤ (out-Term c.args.by.now).constant else pos 0) is) c.loop-mono.invariant.sum in
       let fits = subst (FitsSigned w128) (sym sum) (constant_fits c.args.var c.args.by.now c.requires.normal_by c.requires.keeps_by c.args.term.now c.requires.normal c.requires.keeps c.as_slice-mono-items.result.now c.as_slice-mono-items.ensures (c.loop-mono.mono-index + 1)) in
       let piece = ap (λ test. if test then scaled c.mono-item.result.coef (out-Term c.args.by.now).monos else record { coef = c.mono-item.result.coef; atom = substituted_atom c.args.var c.args.by.now c.mono-item.result.atom } ∷ []) is
-          ∙ ap (λ (of : ℤ). scaled of (out-Term c.args.by.now).monos) (sym left) in
+      ∙ ap (λ (of : ℤ). scaled of (out-Term c.args.by.now).monos) (sym left) in
       record {
         made =
             ap (λ of. map plain_mono of.items) w.monos-is
@@ -64,7 +64,7 @@ substituted_wide-loop-mono-preserved t c = elim c.if-is_variable.branch [
             (ap (map plain_mono) w.in_ok-push.ensures.items ∙ map-append plain_mono c.loop-mono.monos.items _ ∙ (λ i. map plain_mono c.loop-mono.monos.items ++ record { coef = coef i; atom = w.in_ok-atom.ensures i } ∷ []));
         sum = w.constant-is ∙ constant_same c.args.var c.args.by.now c.as_slice-mono-items.result.now c.loop-mono.mono-index c.mono-item.result c.loop-mono-test.true c.mono-item.is (out-Term c.args.term.now).constant (to_z w128 c.loop-mono.constant-bits) is c.loop-mono.invariant.sum;
       }
-  ]
+]
 
 pub substituted_wide-collected-requires-clause-normal : goal.substituted_wide-collected-requires-clause-normal
 substituted_wide-collected-requires-clause-normal t c =
