@@ -1,22 +1,22 @@
-pub mod Monos
 mod Collected
 mod Compared
-pub mod Exact
-pub mod NormalForms
-mod NormalValues
 mod Confluent
+mod Exact
 mod Gathering
+pub mod Monos
 mod Narrowed
+mod NormalForms
+mod NormalValues
 pub mod Numbers
 mod OrderLaws
 mod Outside
 mod Parts
 pub mod Progress
 mod Rule
-pub mod Settled
+mod Settled
 mod Sizes
-mod Unique
 mod Substituted
+mod Unique
 pub mod WalkParts
 pub mod Weights
 mod Wides

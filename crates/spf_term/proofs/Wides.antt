@@ -1,6 +1,6 @@
 -- Terms of wide numbers, said of their monomials as lists.
 use Rattle.std.proofs.Common.{◌≡◌, ℕ, ◌+◌, ◌<◌, ℤ, List, [], ◌∷◌, ◌++◌, length, get_or, map, take, refl, ap, sym, ◌∙◌, append_assoc, subst}
-use Rattle.std.proofs.lemmas.List.{get_or-map, map-append, take_more}
+use Rattle.std.proofs.lemmas.List.{map-append, take_more}
 use Rattle.std.proofs.lemmas.List.Elements.{All-from_recursion}
 use Rattle.std.specs.List.{All, AllByRecursion}
 use Rattle.std.specs.Cmp.Lexicographic.{slice_cmp}
@@ -40,9 +40,6 @@ plain_monos_are term = ap (λ of. (out-Term of).monos) (plain_is term) ∙ out_m
 
 pub plain_constant_is : (term : WideTerm) → (out-Term (plain term)).constant ≡ (out-WideTerm term).constant
 plain_constant_is term = ap (λ of. (out-Term of).constant) (plain_is term) ∙ out_constant (map plain_mono (out-WideTerm term).monos) (out-WideTerm term).constant
-
-pub plain_at : (monos : List WideMono) (index : ℕ) (mono : WideMono) → index < length monos → mono ≡ get_or monos index mono → plain_mono mono ≡ get_or (map plain_mono monos) index (plain_mono mono)
-plain_at monos index mono inside is = ap plain_mono is ∙ sym (get_or-map plain_mono monos index mono (plain_mono mono) inside)
 
 pub plain_made : (monos : List WideMono) (constant : ℤ) → plain (roll-WideTerm (record { monos = monos; constant = constant })) ≡ sum_of (map plain_mono monos) constant
 plain_made monos constant = plain_is (roll-WideTerm (record { monos = monos; constant = constant })) ∙ ap (λ term. sum_of (map plain_mono term.monos) term.constant) (out-roll-WideTerm (record { monos = monos; constant = constant }))

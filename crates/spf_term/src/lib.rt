@@ -2,7 +2,7 @@
 //!
 //! An index expression of a kernel is a term, and so is each side of a constraint. A term leads back to itself where an
 //! application has it as its argument; contracts see it as plain data, so that they can compare it with one that a
-//! definition builds. Upward it gives one contract, that of `walk`: it finds the value of a term, and tells a `Reader` of
+//! definition builds. Evaluation has one contract, that of `walk`: it finds the value of a term, and tells a `Reader` of
 //! each entry of a table that it reads, in the order of evaluation (`Walks`). `value` is such a walk, which stops at the
 //! first entry outside its table.
 //!
