@@ -4,6 +4,8 @@
 #![tactic(auto)]
 
 #[cfg(test)]
+mod pack;
+#[cfg(test)]
 mod perm;
 #[cfg(test)]
 mod seed;

@@ -2,7 +2,7 @@ use spf_perm::{Perm, PermFault};
 use std::test::Fail;
 
 /// Whether the permutation takes the elements to these places, in turn.
-fn takes_to(perm: &Perm, places: &[u32]) -> bool {
+pub(crate) fn takes_to(perm: &Perm, places: &[u32]) -> bool {
     if perm.len() as usize != places.len() {
         return false;
     }

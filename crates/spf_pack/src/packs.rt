@@ -15,7 +15,7 @@ use std::alloc::Global;
 
 /// The packing of the first of these arrays in the order in which iterations of loop `by` touch places of the arrays.
 /// `order` has the current position of each iteration of the loop, `now` by the number of each array the present packing.
-/// Linear in the touches times the listed arrays, and in the places.
+/// Linear in the touches times the listed arrays, and in the places, with 8 bytes for each iteration of the loop.
 pub fn cpack(
     alloc: Global,
     touches: &Touches,
