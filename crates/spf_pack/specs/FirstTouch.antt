@@ -13,6 +13,7 @@ is_in xs x = list_any (nat_eq x) xs
 abbrev pub with_listed : List ℕ → ℕ → List ℕ
 with_listed listed x = if is_in listed x then listed else listed ++ x ∷ []
 
+-- the list with these numbers put there one after another
 abbrev pub all_listed : List ℕ → List ℕ → List ℕ
 all_listed listed [] = listed
 all_listed listed (x ∷ xs) = all_listed (with_listed listed x) xs
@@ -26,6 +27,7 @@ abbrev pub place_in : Option ArrayShape → ℕ → Option ℕ
 place_in None element = None
 place_in (Some array) element = if nat_le array.start element && nat_lt (element - array.start) array.length then Some (element - array.start) else None
 
+-- the place, or where there is none the other one
 abbrev pub or_else : Option ℕ → Option ℕ → Option ℕ
 or_else None other = other
 or_else (Some place) other = Some place

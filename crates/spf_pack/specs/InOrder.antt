@@ -8,10 +8,11 @@ use Rattle.spf_space.specs.declared.places.Places.{Places}
 use Rattle.spf_space.specs.declared.shape.Shape.{Shape}
 use Rattle.spf_pack.specs.declared.in_order.Turn.{Turn}
 
--- how many units there are, and that these are their places
+-- how many units there are
 abbrev pub count_in : Shape → ℕ
 count_in shape = length (units_of shape.steps shape.loops)
 
+-- these are the places of the units
 abbrev pub ArePlacesIn : Shape → Places → Type 0
 ArePlacesIn shape places = ArePlacesOf shape.steps shape.loops places.tiles places.orders
 
@@ -24,6 +25,7 @@ pub record AreInOrder (shape : Shape) (places : Places) (units : List ℕ) : Typ
   pub each : IsPermutation (range_with_len 0 (count_in shape)) units
   pub order : AllPairs (ComesBefore shape places) units
 
+-- the unit with the number of its place
 abbrev pub turn_of : Shape → Places → ℕ → Turn
 turn_of shape places u = record { number = number_of shape.steps shape.loops places.tiles places.orders u; unit = u }
 
