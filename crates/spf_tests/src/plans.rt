@@ -1,6 +1,9 @@
 //! Where orders stand in a plan, and what grows from a seed.
 
-ghost use Rattle.std.specs.Prelude.{◌≡◌, ◌<◌, ◌≤◌, ℕ, IfOk, length};
+ghost use Rattle.std.specs.Prelude.{◌≡◌, ◌<◌, ◌≤◌, ℕ, List, All, IfOk, Ok, length};
+ghost use Rattle.spf_input.specs.Answer.{IsBundleAnswer};
+ghost use Rattle.spf_store.specs.Accepted.{IsAccepted};
+ghost use Rattle.spf_plan.specs.Taken.{BelongTogether};
 ghost use Rattle.spf_space.specs.Layout.{cells_in, iterations};
 ghost use Rattle.spf_touch.specs.Frame.{IsTouched};
 ghost use Rattle.spf_touch.specs.Repeated.{touches_at};
@@ -26,15 +29,26 @@ struct Walked {
     touches: Touches,
 }
 
+/// So that the prover knows what `accesses` asks of a bundle that was read.
+fn accepted(bundle: &Bundle)
+    requires { (bytes : List ℕ) × IsBundleAnswer bytes (Ok bundle.now) }
+    ensures { IsAccepted bundle.now.env bundle.now.kernel }
+{
+    kept_input_is_accepted();
+    let _tree = bundle.kernel.tree();
+}
+
 fn walk_bundle(alloc: Global, text: &[u8]) -> Result<Walked, Fail>
     requires { length text.now ≤ 67108864 }
     ensures lists { IfOk result (λ walked. length walked.touches ≡ iterations walked.shape.loops) }
     ensures inside { IfOk result (λ walked. (u e : ℕ) → IsTouched (touches_at walked.touches u) e → e < cells_in walked.shape.arrays) }
 {
-    kept_input_is_accepted();
     touched_elements_are_cells();
-    let bundle = read_bundle(alloc, text)?;
-    let _tree = bundle.kernel.tree();
+    let bundle = match read_bundle(alloc, text) {
+        Ok(bundle) => bundle,
+        Err(fault) => return Err(Fail::from(fault)),
+    };
+    accepted(&bundle);
     let shape = shape(alloc, &bundle.kernel, &bundle.env)?;
     let touches = accesses(alloc, &bundle.kernel, &bundle.env, &shape)?;
     Ok(Walked {
@@ -52,18 +66,16 @@ input { n = 3; z = 7; ia = 0 2 5 7; ja = 0 1 0 1 2 1 2; u = 0 0 0; b = 1 2 3; a 
 
 /// What grows from a seed of the three iterations of the sweep in its first step, in two parts: the number of each unit, or
 /// the first pair along which the seed falls.
-fn grown(
-    rt: &impl Abort,
-    alloc: Global,
-    seed: &[u32; 3],
-) -> Result<Result<Vec<u32>, (u32, u32)>, Fail> {
+fn grown(rt: &impl Abort, alloc: Global, seed: &[u32]) -> Result<Result<Vec<u32>, (u32, u32)>, Fail>
+    requires three { length seed.now ≡ 3 }
+    requires below { All (λ (part : ℕ). part < 2) seed.now }
+{
     let walked = walk_bundle(alloc, SWEEP)?;
     let shape = &walked.shape;
-    assert!(rt;
-        shape.steps == 2 && shape.loops.len() == 1 && shape.loops.as_slice()[0].extent == 3
-    );
-    assert!(rt; seed[0] < 2 && seed[1] < 2 && seed[2] < 2);
-    match grow(alloc, &walked.touches, shape, seed.as_slice(), 0, 0, 2) {
+    assert!(rt; shape.steps == 2);
+    assert!(rt; shape.loops.len() == 1);
+    assert!(rt; shape.loops.as_slice()[0].extent == 3);
+    match grow(alloc, &walked.touches, shape, seed, 0, 0, 2) {
         Ok(numbers) => Ok(Ok(numbers)),
         Err(GrowFault::Reversed { p, q }) => Ok(Err((p, q))),
         Err(fault) => Err(Fail::from(fault)),
@@ -72,23 +84,21 @@ fn grown(
 
 #[test]
 fn numbers_grow_from_a_seed_that_does_not_fall(rt: HostRuntime) -> Result<(), Fail> {
-    // The seed, and the tiles of both steps.
-    let rows: [([u32; 3], &[u32]); 2] = [
-        ([0, 0, 1], &[0, 0, 1, 0, 1, 1]),
-        ([0, 1, 1], &[0, 1, 1, 1, 1, 1]),
-    ];
-    for (seed, wanted) in rows {
-        match grown(&rt, rt.alloc(), &seed)? {
-            Ok(numbers) => assert_eq!(rt; numbers.as_slice(), wanted),
-            Err(_) => assert!(rt; false),
-        }
+    // The tiles of both steps.
+    match grown(&rt, rt.alloc(), [0, 0, 1].as_slice())? {
+        Ok(numbers) => assert_eq!(rt; numbers.as_slice(), [0, 0, 1, 0, 1, 1].as_slice()),
+        Err(_) => assert!(rt; false),
+    }
+    match grown(&rt, rt.alloc(), [0, 1, 1].as_slice())? {
+        Ok(numbers) => assert_eq!(rt; numbers.as_slice(), [0, 1, 1, 1, 1, 1].as_slice()),
+        Err(_) => assert!(rt; false),
     }
     Ok(())
 }
 
 #[test]
 fn a_seed_that_falls_is_refused_with_the_first_pair(rt: HostRuntime) -> Result<(), Fail> {
-    match grown(&rt, rt.alloc(), &[0, 1, 0])? {
+    match grown(&rt, rt.alloc(), [0, 1, 0].as_slice())? {
         Ok(_) => assert!(rt; false),
         Err(pair) => assert_eq!(rt; pair, (1, 2)),
     }
@@ -104,6 +114,14 @@ loop kick (i in 0 .. n) { vx[i] += fx[i]; } } ";
 const INPUT: &[u8] =
     b" input { n = 4; m = 5; left = 2 0 1 0 1; right = 3 1 2 3 3; x = 0 10 20 30; vx = 1 2 3 4; fx = 0 0 0 0; }";
 
+fn built(alloc: Global, touches: &Touches, shape: &Shape) -> Result<Layers, Fail>
+    requires lists { length touches.now ≡ iterations shape.now.loops }
+    requires inside { (u e : ℕ) → IsTouched (touches_at touches.now u) e → e < cells_in shape.now.arrays }
+    ensures { IfOk result (λ layers. BelongTogether layers touches.now shape.now) }
+{
+    Ok(Layers::build(alloc, touches, shape)?)
+}
+
 /// The new position of each source position of the pairs in the plan that a script leaves.
 fn order_of_pairs(rt: &impl Abort, alloc: Global, script: &[u8]) -> Result<Vec<u32>, Fail> {
     let mut text = Vec::from_slice(alloc, KERNEL)?;
@@ -116,7 +134,7 @@ fn order_of_pairs(rt: &impl Abort, alloc: Global, script: &[u8]) -> Result<Vec<u
         touches,
     } = walk_bundle(alloc, text.as_slice())?;
     let steps = resolve(alloc, &bundle.script, &shape, 0)?;
-    let layers = Layers::build(alloc, &touches, &shape)?;
+    let layers = built(alloc, &touches, &shape)?;
     let plan = plan(alloc, &layers, &touches, &shape, steps.as_slice())?;
     let orders = plan.places().orders.as_slice();
     assert!(rt; orders.len() == 3 && orders[1].len() == 5);
