@@ -1,0 +1,2 @@
+pub mod CalcWords
+pub mod Productions
