@@ -1,1 +1,6 @@
+pub mod FactEquations
+pub mod Formed
 pub mod LiteralTexts
+pub mod PrintEquations
+pub mod Signs
+pub mod TermEquations

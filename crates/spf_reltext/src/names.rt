@@ -1,0 +1,134 @@
+//! The names of parameters and functions, numbered by their first use.
+
+ghost use Rattle.std.specs.Prelude.{◌≡◌, ◌++◌, [], map, length, position, OnOk, IfOk};
+ghost use Rattle.std.specs.Option.{unwrap_or};
+ghost use Rattle.std.specs.Str.{bytes_eq};
+ghost use Rattle.spf_reltext.specs.Names.{fact_names, inserted, literal_names, names_of, noted, number_of};
+
+use crate::fact::{Fact, Role, facts_in};
+use crate::raw::RawLiteral;
+use crate::rules::{contains, copy_names, is_same, variables};
+use spf_base::{Name, NoMemory};
+use sqlite_items::Items;
+use std::alloc::Global;
+
+/// The names of parameters and of functions, each at its number.
+#[derive(Drop)]
+pub struct RelNames {
+    pub params: Items<Name>,
+    pub funs: Items<Name>,
+}
+
+impl RelNames {
+    pub fn new(alloc: Global) -> RelNames
+        ensures params { result.params ≡ [] }
+        ensures funs { result.funs ≡ [] }
+    {
+        RelNames {
+            params: Items::new(alloc),
+            funs: Items::new(alloc),
+        }
+    }
+
+    /// A copy. Linear in the names.
+    fn copy(alloc: Global, names: &RelNames) -> Result<RelNames, NoMemory>
+        ensures { IfOk result (λ made. made ≡ names.now) }
+    {
+        let mut made = RelNames::new(alloc);
+        copy_names(alloc, &mut made.params, names.params.as_slice())?;
+        copy_names(alloc, &mut made.funs, names.funs.as_slice())?;
+        Ok(made)
+    }
+}
+
+/// A place as a number of 32 bits. There is none for a place that only more than 2^32 names have, which is told as want of
+/// memory.
+pub(crate) fn number(place: usize) -> Result<u32, NoMemory>
+    ensures { IfOk result (λ number. number ≡ place) }
+{
+    match u32::try_from(place) {
+        Ok(number) => Ok(number),
+        Err(_) => Err(NoMemory),
+    }
+}
+
+fn place_of(names: &[Name], name: &Name) -> Option<usize>
+    ensures { result ≡ position (bytes_eq name.now) names.now }
+{
+    names.iter().position(|other| is_same(name, other))
+}
+
+/// The number of a name, or how many there are. Linear in the names.
+pub(crate) fn number_of(names: &[Name], name: &Name) -> Result<u32, NoMemory>
+    ensures { IfOk result (λ number. number ≡ number_of names.now name.now) }
+{
+    number(place_of(names, name).unwrap_or(names.len()))
+}
+
+/// Puts a copy of the name behind the others, where it isn't among them. Linear in them.
+fn insert(alloc: Global, names: &mut Items<Name>, name: &Name) -> Result<(), NoMemory>
+    ensures { OnOk result (names.new ≡ inserted names.old name.now) }
+{
+    if contains(names.as_slice(), name) {
+        return Ok(());
+    }
+    names.push(Name::copy(alloc, name.bytes())?)?;
+    Ok(())
+}
+
+fn note(
+    alloc: Global,
+    names: &mut RelNames,
+    variables: &[Name],
+    role: &Role,
+) -> Result<(), NoMemory>
+    ensures { OnOk result (names.new ≡ noted variables.now names.old role.now) }
+{
+    match role {
+        Role::Alone => Ok(()),
+        Role::Plain(name) => {
+            if contains(variables, name) {
+                return Ok(());
+            }
+            insert(alloc, &mut names.params, name)
+        }
+        Role::Entry(name) => insert(alloc, &mut names.funs, name),
+    }
+}
+
+fn note_facts(
+    alloc: Global,
+    names: &mut RelNames,
+    variables: &[Name],
+    facts: &[Fact],
+) -> Result<(), NoMemory>
+    ensures { OnOk result (names.new ≡ fact_names variables.now names.old facts.now) }
+{
+    for fact in facts {
+        note(alloc, names, variables, &fact.role)?;
+    }
+    Ok(())
+}
+
+fn note_literal(alloc: Global, names: &mut RelNames, literal: &RawLiteral) -> Result<(), NoMemory>
+    ensures { OnOk result (names.new ≡ literal_names names.old literal.now) }
+{
+    let variables = variables(alloc, literal)?;
+    let facts = facts_in(alloc, literal.constraints.as_slice())?;
+    note_facts(alloc, names, variables.as_slice(), facts.as_slice())
+}
+
+/// These names, and behind them those that the literals use first. Each monomial is looked for among the names.
+pub(crate) fn names_of(
+    alloc: Global,
+    names: &RelNames,
+    literals: &[RawLiteral],
+) -> Result<RelNames, NoMemory>
+    ensures { IfOk result (λ made. made ≡ names_of names.now literals.now) }
+{
+    let mut made = RelNames::copy(alloc, names)?;
+    for literal in literals {
+        note_literal(alloc, &mut made, literal)?;
+    }
+    Ok(made)
+}
