@@ -1,5 +1,5 @@
 -- The names of parameters and functions, numbered by their first use.
-use Rattle.std.specs.Prelude.{ℕ, if◌then◌else◌, List, [], ◌∷◌, ◌++◌, length, fold, position}
+use Rattle.std.specs.Prelude.{ℕ, ◌≡◌, if◌then◌else◌, List, [], ◌∷◌, ◌++◌, length, fold, position}
 use Rattle.std.specs.List.{list_any}
 use Rattle.std.specs.Option.{unwrap_or}
 use Rattle.std.specs.Str.{bytes_eq}
@@ -39,3 +39,12 @@ literal_names names literal = fact_names (variables literal) names (constraints_
 -- the names, and behind them those that the literals use first, in the order of the text
 abbrev pub names_of : RelNames → List RawLiteral → RelNames
 names_of names literals = fold literal_names names literals
+
+-- the list goes on behind what it had
+abbrev pub GoesOn : List (List ℕ) → List (List ℕ) → Type 0
+GoesOn old new = (more : List (List ℕ)) × (new ≡ old ++ more)
+
+-- what the names had stays at its number
+pub record Extends (old new : RelNames) : Type 0 where
+  pub params : GoesOn old.params new.params
+  pub funs : GoesOn old.funs new.funs

@@ -1,4 +1,21 @@
-//! The text of sets and relations: literals, read and printed.
+//! The text of sets and relations: literals such as `{ [i] -> [j] : j = f[i] + 1 } | ..`, read and printed.
+//!
+//! The words are those of calculator texts (`CalcKind`). Each production is one record (`Productions`): its grammar, with
+//! brackets 5 deep, the raw literal that is made of a derivation, and its reader; the grammar is LL(1). Of a raw literal
+//! its monomials are listed, one fact each in the order of the text (`Facts`): rules 22 to 24 are tests of the literals and
+//! of these facts (`Rules`), and the facts number the names of parameters and functions by their first use (`Names`).
+//! What literals mean is made of them as they are written, with no term made normal (`Resolved`).
+//!
+//! Upward the crate gives two contracts. `parse_rel` and `parse_set` answer the relation or set of the literals that stand
+//! at a token, or the exact fault of syntax there, or the least rule that is broken (`IsRelAnswer`, `IsSetAnswer`); what they
+//! give is well-formed, names that there were keep their numbers (`names_are_kept`), and literals are read in one way
+//! (`one_list_of_literals`). `print_rel` and `print_set` give the
+//! text of a relation or set (`Printed`), in which variables are named X, Y and E by what they are; `push_term` prints a
+//! term alone.
+//!
+//! The crate stands on spf_lex for words, productions and their readers, on spf_rel and spf_term for what is read and
+//! printed, and on spf_base for names, places and running out of memory. Reading is linear in the tokens, but each name is
+//! looked for among the variables of its literal and among the names, one by one; printing is linear in the text.
 #![tactic(auto)]
 
 mod fact;
@@ -17,8 +34,8 @@ mod rules;
 mod terms;
 
 pub use kind::CalcKind;
-pub use literal::Literals;
-pub use names::RelNames;
+pub use literal::{Literals, one_list_of_literals};
+pub use names::{RelNames, names_are_kept};
 pub use parse::{RelTextFault, parse_rel, parse_set};
 pub use print_term::{Layout, push_term};
 pub use printing::{print_rel, print_set};

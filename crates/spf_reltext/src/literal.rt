@@ -1,9 +1,16 @@
 //! Readers of literals, one production at a time.
 
-ghost use Rattle.std.specs.Prelude.{◌≡◌};
+ghost use Rattle.std.specs.Prelude.{ℕ, ◌≡◌};
+ghost use Rattle.spf_base.specs.declared.place.Place.{Place};
 ghost use Rattle.spf_lex.specs.Production.{behind, begins, optional, separated};
 ghost use Rattle.spf_lex.specs.Reader.{Reads, Takes};
+ghost use Rattle.spf_lex.specs.Standing.{IsSyntaxFault};
+ghost use Rattle.spf_lex.specs.Tokens.{Tokenized};
+ghost use Rattle.spf_lex.specs.declared.text_kind.TextKind.{TextKind};
+ghost use Rattle.spf_reltext.specs.CalcWords.{calc_words};
+ghost use Rattle.spf_reltext.specs.Parsed.{AreRead};
 ghost use Rattle.spf_reltext.specs.Productions as p;
+ghost use Rattle.spf_reltext.specs.declared.literal.Literals.{Literals as Read};
 ghost use Rattle.spf_reltext.specs.declared.kind.CalcKind.TheVariants as kind;
 
 use crate::ix::{BRACKETS, ix};
@@ -205,3 +212,10 @@ impl TextPart<CalcKind> for Literals {
 
     ghost suffix = { leaves_suffix same_kind literals };
 }
+
+/// Law: at a token literals are read in one way, or there is a fault of syntax.
+pub fn one_list_of_literals()
+    ensures one { (tokens : Tokenized) (from n m : ℕ) (a b : Read) → AreRead tokens from n a → AreRead tokens from m b → (n ≡ m) × (a ≡ b) }
+    ensures no_fault { (tokens : Tokenized) (from n : ℕ) (a : Read) (place : Place) (kind : TextKind) → AreRead tokens from n a →
+        ¬ IsSyntaxFault calc_words p.literals tokens from place kind }
+{}

@@ -1,9 +1,11 @@
 //! The names of parameters and functions, numbered by their first use.
 
-ghost use Rattle.std.specs.Prelude.{◌≡◌, ◌++◌, [], map, length, position, OnOk, IfOk};
+ghost use Rattle.std.specs.Prelude.{◌≡◌, List, [], ◌++◌, length, position, OnOk, IfOk};
 ghost use Rattle.std.specs.Option.{unwrap_or};
 ghost use Rattle.std.specs.Str.{bytes_eq};
-ghost use Rattle.spf_reltext.specs.Names.{fact_names, inserted, literal_names, names_of, noted, number_of};
+ghost use Rattle.spf_reltext.specs.declared.names.RelNames.{RelNames as NamesBefore};
+ghost use Rattle.spf_reltext.specs.declared.raw.RawLiteral.{RawLiteral};
+ghost use Rattle.spf_reltext.specs.Names.{Extends, fact_names, inserted, literal_names, names_of, noted, number_of};
 
 use crate::fact::{Fact, Role, facts_in};
 use crate::raw::RawLiteral;
@@ -132,3 +134,8 @@ pub(crate) fn names_of(
     }
     Ok(made)
 }
+
+/// Law: what the names have stays at its number.
+pub fn names_are_kept()
+    ensures { (names : NamesBefore) (literals : List RawLiteral) → Extends names (names_of names literals) }
+{}
