@@ -1,6 +1,6 @@
 //! Tests of the languages and of what they stand on, from outside: each test calls what is public, as a user does.
 //!
-//! There is a module for each crate under test: `spf_base`, `spf_io`, `spf_lex`, `spf_kernel` and `spf_script`.
+//! There is a module for each crate under test: `spf_base`, `spf_io`, `spf_lex`, `spf_kernel`, `spf_script` and `spf_reltext`.
 #![tactic(auto)]
 
 #[cfg(test)]
@@ -13,5 +13,7 @@ mod kernel;
 mod lex;
 #[cfg(test)]
 mod look_ahead;
+#[cfg(test)]
+mod reltext;
 #[cfg(test)]
 mod script;
