@@ -9,10 +9,9 @@ use Rattle.std.specs.List.{All, list_any, position_or_len}
 use Rattle.std.specs.Str.{bytes_eq}
 use Rattle.spf_rel.specs.Meaning.{IsFormed, IsFormedRel, IsFormedSet}
 use Rattle.spf_rel.specs.Renumbering.{AtomVariables, SumVariables, Variables}
-use Rattle.spf_rel.specs.declared.relation.Conj.{Conj}
 use Rattle.spf_reltext.specs.Names.{number_of}
 use Rattle.spf_reltext.specs.Resolved.{conj_of, difference, equal_by, equal_terms, ins_of, ix_monos, least_by, least_terms, mono_of, monomial, monos_of, opposite, outputs_of, plain_atom, rel_of, set_of, term_of}
-use Rattle.spf_reltext.specs.Rules.{breaks_arities, breaks_limits, breaks_names, differ, has_long_side, is_wanted, least_rule, outs_of, same_shape, shape_of, shape_of_all, shape_with, variables}
+use Rattle.spf_reltext.specs.Rules.{breaks_arities, breaks_limits, breaks_names, differ, has_long_side, is_wanted, least_rule, outs_of, same_shape, shape_of_all, shape_with, variables}
 use Rattle.spf_reltext.specs.declared.names.RelNames.{RelNames}
 use Rattle.spf_reltext.specs.declared.raw.Compare.{Compare}
 use Rattle.spf_reltext.specs.declared.raw.Compare.TheVariants.{Equal, AtMost, Less, AtLeast, Greater}

@@ -1,13 +1,12 @@
 -- What stands at a token is read in one way.
-use Rattle.std.proofs.Common.{◌≡◌, ◌⊎◌, ℕ, ◌-◌, ◌+◌, List, [], ◌∷◌, ◌++◌, length, drop, Result, Ok, Err, refl, sym, ap, ◌∙◌, subst, append_assoc, append-nil, inl, inr, arith}
+use Rattle.std.proofs.Common.{◌≡◌, ◌⊎◌, ℕ, ◌-◌, List, [], ◌∷◌, ◌++◌, length, drop, Result, Ok, Err, refl, sym, ap, ◌∙◌, subst, append_assoc, append-nil, inl, inr, arith}
 use Rattle.std.proofs.lemmas.List.{append_cancel_right, length-append, length-drop, length-map}
 use Rattle.spf_base.specs.declared.place.Place.{Place}
 use Rattle.spf_lex.proofs.Finding.{one_yield}
 use Rattle.spf_lex.proofs.Numbered.{numbered_length}
 use Rattle.spf_lex.specs.Grammar.{Grammar, In, IsReading, rest_of}
 use Rattle.spf_lex.specs.Language.{Lexed, kind_of, kinds, tokens_of}
-use Rattle.spf_lex.specs.Production.{Production}
-use Rattle.spf_lex.specs.Standing.{IsSyntaxFault, Yields, tokens_from}
+use Rattle.spf_lex.specs.Standing.{IsSyntaxFault, Yields}
 use Rattle.spf_lex.specs.Tokens.{Tokenized, texts}
 use Rattle.spf_lex.specs.declared.text_kind.TextKind.{TextKind}
 use Rattle.spf_reltext.proofs.LiteralTexts.{kinds_exact, literals_clear}

@@ -1,6 +1,5 @@
 -- The sets and relations that a text holds, and what reading one answers.
-use Rattle.std.specs.Prelude.{ℕ, ◌≡◌, List, Option, None, Some, Result, Ok, Err, ⊤}
-use Rattle.spf_base.specs.declared.place.Place.{Place}
+use Rattle.std.specs.Prelude.{ℕ, ◌≡◌, List, None, Some, Result, Ok, Err, ⊤}
 use Rattle.spf_lex.specs.Grammar.{IsReading}
 use Rattle.spf_lex.specs.Language.{kinds}
 use Rattle.spf_lex.specs.Standing.{StandsAt, IsSyntaxFault, tokens_from}

@@ -1,4 +1,4 @@
-use Rattle.std.proofs.Common.{◌≡◌, ◌++◌, ◌+◌, flat_map, take}
+use Rattle.std.proofs.Common.{◌≡◌, ◌++◌, flat_map, take}
 use Rattle.spf_reltext.proofs.FactEquations.{mono_facts}
 use Rattle.spf_reltext.proofs.fact.+facts.Given as goal
 
