@@ -1,4 +1,7 @@
+pub mod Elimination
 pub mod Join
 pub mod Meaning
 pub mod Operations
 pub mod Renumbering
+pub mod Rule
+pub mod Simplified

@@ -57,7 +57,17 @@ IsFormedSet set = All (IsFormed set.arity) set.conjs
 abbrev pub IsFormedRel : Rel → Type 0
 IsFormedRel rel = All (IsFormed (rel.ins + rel.outs)) rel.conjs
 
+-- under every environment points of so many numbers meet some conjunction of the one list where they meet some of the other
+abbrev pub MeanTheSame : ℕ → List Conj → List Conj → Type 0
+MeanTheSame outer conjs made = (env : Environment) (point : List ℤ) → length point ≡ outer → MeetsSome env point conjs ↔ MeetsSome env point made
+
 -- ---- what the operations mean, under every environment
+
+abbrev pub IsSameRelation : Rel → Rel → Type 0
+IsSameRelation r made = (env : Environment) (input output : List ℤ) → Relates env made input output ↔ Relates env r input output
+
+abbrev pub IsSameSet : Set → Set → Type 0
+IsSameSet s made = (env : Environment) (point : List ℤ) → IsIn env made point ↔ IsIn env s point
 
 abbrev pub IsInverse : Rel → Rel → Type 0
 IsInverse r made = (env : Environment) (input output : List ℤ) → Relates env made input output ↔ Relates env r output input

@@ -6,19 +6,36 @@
 //! of its result, exactly, and what that result means under every environment: composition, inverse, image, union,
 //! intersection or restriction.
 //!
-//! It stands on the terms of spf_term. Each operation is linear in its result, and recurses as deep as a term nests: the
-//! terms of a result nest no deeper than those that it is made of, and a term of at most 16,384 monomials nests at most
-//! that deep.
+//! `simplify` and `simplify_set` make each conjunction simpler by the steps of `IsSimplification` (specs/Simplified.antt): terms
+//! are made normal, inner variables are solved for, constant constraints and variables that don't occur go, and what is left
+//! is put in order. They give exactly what the definition says, or the number that passes the number rule at its first test
+//! that fails; a law says that simplified conjunctions have the same points.
+//!
+//! It stands on the terms of spf_term. Each operation but simplification is linear in its result. Each call recurses as deep
+//! as a term nests: the terms of a result nest no deeper than those that it is made of, but for what simplification puts in
+//! place of variables, and a term of at most 16,384 monomials nests at most that deep.
 #![tactic(auto)]
 
+mod compaction;
+mod elimination;
 mod inverses;
 mod join;
+mod normal_terms;
+mod ordering;
 mod products;
 mod relation;
 mod renumber;
+mod rule;
+mod settling;
+mod simplification;
+mod simplifying_laws;
+mod solving;
+mod tidying;
 mod unions;
 
 pub use inverses::inverse;
 pub use products::{apply, compose, intersect, intersect_sets, restrict_domain};
 pub use relation::{Conj, Rel, Set};
+pub use simplification::{simplify, simplify_set};
+pub use simplifying_laws::simplification_keeps_the_meaning;
 pub use unions::{union, union_sets};

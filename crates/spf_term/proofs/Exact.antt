@@ -42,7 +42,7 @@ mutual
       let later = both_equal (int_cmp coef coef') (monos_cmp others others') parts.1 in
       λ i. record { coef = exact_signed coef coef' later.0 i; atom = exact_atom atom atom' parts.0 i } ∷ exact_row others others' later.1 i
 
-  exact_term : (a b : Term) → term_cmp a b ≡ Equal → a ≡ b
+  pub exact_term : (a b : Term) → term_cmp a b ≡ Equal → a ≡ b
   exact_term (Term' shape monos constant) (Term' shape' monos' constant') is =
       let parts = both_equal (monos_cmp monos monos') (int_cmp constant constant') is in
       same_term (Term' shape monos constant) (Term' shape' monos' constant')

@@ -126,3 +126,6 @@ atoms_total = record {
   trans = λ x y z. (atom_chain x y z).less;
   congr = λ x y z. (atom_chain x y z).left;
 }
+
+pub terms_total : IsTotalOrder term_cmp
+terms_total = record { antisymm = term_turned; trans = λ x y z. (term_chain x y z).less; congr = λ x y z. (term_chain x y z).left }

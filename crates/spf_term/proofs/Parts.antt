@@ -120,15 +120,18 @@ module _ (var : ℕ) (by : Term) where
       one_variable : load (Var var) (out-Term term).monos ≤ 2 ^ 62
       one_variable = once (Var var) (out-Term term).monos (normal_list term normal) (small_monos term keeps)
 
-      pub constant_fits : (monos : List Mono) → monos ≡ (out-Term term).monos → (index : ℕ) → FitsSigned w128 ((out-Term term).constant +ℤ constants var by (take index monos))
-      constant_fits monos are index =
+      pub constant_small : (monos : List Mono) → monos ≡ (out-Term term).monos → (index : ℕ) → unsigned_abs ((out-Term term).constant +ℤ constants var by (take index monos)) < 2 ^ 127
+      constant_small monos are index =
           let sum = abs_sum (out-Term term).constant (constants var by (take index monos)) in
           let first = small_constant term keeps in
           let more = constants_within (take index monos) in
           let some = load_take (Var var) index monos in
           let all = ap (load (Var var)) are in
           let most = one_variable in
-          fits_signed_from_abs w128 _ (omega (arith, sum, first, more, some, all, most))
+          omega (arith, sum, first, more, some, all, most)
+
+      pub constant_fits : (monos : List Mono) → monos ≡ (out-Term term).monos → (index : ℕ) → FitsSigned w128 ((out-Term term).constant +ℤ constants var by (take index monos))
+      constant_fits monos are index = fits_signed_from_abs w128 _ (constant_small monos are index)
 
       pub parts_fit : (made : List Mono) → made ≡ map normal_mono (parts var by (out-Term term).monos) → (atom : Atom) → load atom made < 2 ^ 127
       parts_fit made are atom =

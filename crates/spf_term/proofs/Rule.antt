@@ -35,11 +35,11 @@ keeps_rule term few none =
 
 -- ---- its monomials
 
-both_none : (first second : Option ℤ) → option_or first second ≡ None → (first ≡ None) × (second ≡ None)
+pub both_none : (first second : Option ℤ) → option_or first second ≡ None → (first ≡ None) × (second ≡ None)
 both_none None second is = (refl, is)
 both_none (Some number) second is = cc
 
-first_by : (outside : Bool) (number : ℤ) (rest : Option ℤ) → (if outside then Some number else rest) ≡ None → (outside ≡ false) × (rest ≡ None)
+pub first_by : (outside : Bool) (number : ℤ) (rest : Option ℤ) → (if outside then Some number else rest) ≡ None → (outside ≡ false) × (rest ≡ None)
 first_by true number rest is = cc
 first_by false number rest is = (refl, is)
 

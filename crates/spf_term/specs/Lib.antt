@@ -3,6 +3,7 @@ pub mod Environment
 pub mod Normal
 pub mod NumberRule
 pub mod Order
+pub mod Solution
 pub mod Substitution
 pub mod Value
 pub mod Walk

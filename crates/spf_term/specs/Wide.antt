@@ -1,6 +1,6 @@
 -- Terms whose numbers have 128 bits.
-use Rattle.std.specs.Prelude.{◌≡◌, ℕ, ◌+◌, ℤ, unsigned_abs, None, Some, List, [], ◌∷◌, Result, Ok, Err, ⊤}
-use Rattle.std.specs.List.{find}
+use Rattle.std.specs.Prelude.{◌≡◌, ℕ, ◌+◌, ◌<◌, ◌^◌, ℤ, unsigned_abs, None, Some, List, [], ◌∷◌, Result, Ok, Err, ⊤}
+use Rattle.std.specs.List.{AllByRecursion, find}
 use Rattle.spf_term.specs.Normal.{by_order}
 use Rattle.spf_term.specs.NumberRule.{is_outside}
 use Rattle.spf_term.specs.Order.{atom_cmp}
@@ -8,7 +8,7 @@ use Rattle.spf_term.specs.declared.fault.TermFault.{TermFault}
 use Rattle.spf_term.specs.declared.fault.TermFault.TheVariants.{Wide, Memory}
 use Rattle.spf_term.specs.declared.term.Atom.{Atom, Var, Param, App}
 use Rattle.spf_term.specs.declared.term.Mono.{Mono}
-use Rattle.spf_term.specs.declared.term.Term.{Term, roll-Term}
+use Rattle.spf_term.specs.declared.term.Term.{Term, out-Term, roll-Term}
 use Rattle.spf_term.specs.declared.wide.WideAtom.{WideAtom, Var as WideVar, Param as WideParam, App as WideApp}
 use Rattle.spf_term.specs.declared.wide.WideMono.{WideMono}
 use Rattle.spf_term.specs.declared.wide.WideTerm.{WideTerm, WideTerm', Row_of-WideMono, end_of-WideMono, more_of-WideMono}
@@ -37,6 +37,10 @@ load_of atom mono = by_order (atom_cmp atom mono.atom) 0 (unsigned_abs mono.coef
 abbrev pub load : Atom → List Mono → ℕ
 load atom [] = 0
 load atom (mono ∷ monos) = load_of atom mono + load atom monos
+
+-- the negated term has numbers of 128 bits
+abbrev pub HasOpposites : Term → Type 0
+HasOpposites term = AllByRecursion (λ (mono : Mono). unsigned_abs mono.coef < 2 ^ 127) (out-Term term).monos × (unsigned_abs (out-Term term).constant < 2 ^ 127)
 
 -- what has these numbers is made, or the first number that is too large is told
 abbrev pub IsNarrowed : {A : Type 0} → List ℤ → A → Result A TermFault → Type 0

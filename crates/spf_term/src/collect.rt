@@ -56,7 +56,8 @@ pub(crate) fn collected(
 ) -> Result<Items<WideMono>, NoMemory>
     requires normal { All (λ mono. AtomIsNormal (plain_atom mono.atom)) monos.items }
     requires fits { (atom : Atom) → load atom (map plain_mono monos.items) < 2 ^ 127 }
-    ensures { IfOk result (λ made. map plain_mono made ≡ all_added (map plain_mono monos.items)) }
+    ensures form { IfOk result (λ made. map plain_mono made ≡ all_added (map plain_mono monos.items)) }
+    ensures fits { IfOk result (λ made. (atom : Atom) → load atom (map plain_mono made) < 2 ^ 127) }
 {
     // The least atom last, since they are taken from the end.
     monos.sort_by(|a, b| compare_wide_atoms(&b.atom, &a.atom))?;

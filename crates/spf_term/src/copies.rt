@@ -8,7 +8,7 @@ use sqlite_items::Items;
 use std::alloc::Global;
 
 #[cycle(copy)]
-fn copied_atom(alloc: Global, atom: &Atom) -> Result<Atom, NoMemory>
+pub(crate) fn copied_atom(alloc: Global, atom: &Atom) -> Result<Atom, NoMemory>
     ensures { IfOk result (λ made. made ≡ atom.now) }
 {
     match atom {

@@ -9,7 +9,9 @@
 //! The normal form of a term (`normal` in specs/Normal.antt) has its monomials in order, each atom once, no coefficient 0,
 //! and normal arguments; laws say that it is normal and keeps the value. `normal` and `substitute` make it, and test the
 //! number rule on the terms that they are given and on what they make of them (`IsTested`): `excess` tells where a term
-//! passes it. While it is made, numbers have 128 bits (src/wide.rt), since those that pass 64 bits may cancel again.
+//! passes it. While it is made, numbers have 128 bits (src/wide.rt), since those that pass 64 bits may cancel again. Crates
+//! that test the rule on many terms together make wide normal forms and substitutions, and narrow them after their test.
+//! `solve` finds a variable that a term can be solved for where the term is 0 (`Solves` in specs/Solution.antt).
 //!
 //! The crate stands on the arithmetic of spf_base and on the kit's lists. `copy`, `normal` and `substitute` take memory, the
 //! other calls none and are linear in the term. Each call recurses as deep as the term nests: with 8 MB of stack a term that
@@ -25,7 +27,10 @@ mod fault;
 mod narrow;
 mod normals;
 mod number_rule;
+mod occurrences;
+mod opposites;
 mod order;
+mod solutions;
 mod substitution;
 mod term;
 mod values;
@@ -36,10 +41,17 @@ pub use bounded::bounded_terms_are_small;
 pub use counts::applications;
 pub use env::{Env, number_at};
 pub use fault::TermFault;
-pub use normals::{normal, normal_form_is_normal, normal_form_keeps_the_value};
+pub use narrow::{narrowed, wide_monomials};
+pub use normals::{normal, normal_form_is_normal, normal_form_keeps_the_value, normal_wide};
 pub use number_rule::{excess, first_outside, monomials};
-pub use order::compare;
-pub use substitution::{substitute, substitution_keeps_the_value};
+pub use occurrences::mentions;
+pub use opposites::oriented_wide;
+pub use order::{compare, terms_are_ordered};
+pub use solutions::{
+    Solution, oriented_terms_are_alike, oriented_terms_are_normal, solutions_solve, solve,
+};
+pub use substitution::{substitute, substituted_wide, substitution_keeps_the_value};
 pub use term::{Atom, Mono, Term};
 pub use values::value;
 pub use walks::{Reader, Walked, walk};
+pub use wide::{WideAtom, WideMono, WideTerm};

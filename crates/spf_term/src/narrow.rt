@@ -24,7 +24,7 @@ fn atom_wide_monomials(atom: &WideAtom) -> u64
 
 /// As `monomials`.
 #[cycle(wide_monomials)]
-pub(crate) fn wide_monomials(term: &WideTerm) -> u64
+pub fn wide_monomials(term: &WideTerm) -> u64
     ensures { result ≡ min (monomials (plain term.now)) (2 ^ 64 - 1) }
 {
     let mut count: u64 = 0;
@@ -74,7 +74,7 @@ fn narrowed_mono(alloc: Global, mono: &WideMono) -> Result<Mono, TermFault>
 /// The term of these numbers, or the first of them that is farther from 0 than 2^62. Linear in the term; recurses as deep as
 /// it nests.
 #[cycle(narrowed)]
-pub(crate) fn narrowed(alloc: Global, term: &WideTerm) -> Result<Term, TermFault>
+pub fn narrowed(alloc: Global, term: &WideTerm) -> Result<Term, TermFault>
     ensures { IsNarrowed (numbers (plain term.now)) (plain term.now) result }
 {
     let mut monos = Items::new(alloc);

@@ -5,7 +5,7 @@ ghost use Rattle.spf_term.specs.Environment.{Environment};
 ghost use Rattle.spf_term.specs.Normal.{IsNormal, normal, normal_atom};
 ghost use Rattle.spf_term.specs.NumberRule.{AtomKeepsRule, IsTested, excess};
 ghost use Rattle.spf_term.specs.Value.{value};
-ghost use Rattle.spf_term.specs.Wide.{plain, plain_atom};
+ghost use Rattle.spf_term.specs.Wide.{HasOpposites, plain, plain_atom};
 ghost use Rattle.spf_term.specs.declared.term.Term.{Term};
 
 use crate::collect::collected;
@@ -34,9 +34,10 @@ pub(crate) fn normal_wide_atom(alloc: Global, atom: &Atom) -> Result<WideAtom, N
 
 /// The normal form, with wide numbers. For n monomials, nested ones counted, it takes n log n comparisons of atoms.
 #[cycle(normal)]
-fn normal_wide(alloc: Global, term: &Term) -> Result<WideTerm, NoMemory>
+pub fn normal_wide(alloc: Global, term: &Term) -> Result<WideTerm, NoMemory>
     requires { excess term.now ≡ None }
-    ensures { IfOk result (λ made. plain made ≡ normal term.now) }
+    ensures form { IfOk result (λ made. plain made ≡ normal term.now) }
+    ensures opposites { IfOk result (λ made. HasOpposites (plain made)) }
 {
     let mut monos = Vec::new(alloc);
     for mono in term.monos.as_slice() {

@@ -1,8 +1,11 @@
 //! The order of terms.
 
 ghost use Rattle.std.specs.Prelude.{◌≡◌};
+ghost use Rattle.std.specs.Cmp.{IsTotalOrder};
 ghost use Rattle.std.specs.Ordering.{int_cmp, ordering_then};
+ghost use Rattle.std.specs.declared.cmp.Ordering.TheVariants.{Equal};
 ghost use Rattle.spf_term.specs.Order.{atom_cmp, term_cmp};
+ghost use Rattle.spf_term.specs.declared.term.Term.{Term};
 
 use crate::term::{Atom, Mono, Term};
 use std::cmp::Ordering;
@@ -67,3 +70,9 @@ pub fn compare(a: &Term, b: &Term) -> Ordering
         a.constant.cmp(&b.constant)
     }
 }
+
+/// Law: the order of terms is total, and only equal terms compare equal.
+pub fn terms_are_ordered()
+    ensures total { IsTotalOrder term_cmp }
+    ensures exact { (a b : Term) → term_cmp a b ≡ Equal → a ≡ b }
+{}

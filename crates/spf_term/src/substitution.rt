@@ -6,7 +6,7 @@ ghost use Rattle.spf_term.specs.Normal.{AtomIsNormal, IsNormal, normal, normal_a
 ghost use Rattle.spf_term.specs.NumberRule.{AtomKeepsRule, IsTested, excess};
 ghost use Rattle.spf_term.specs.Substitution.{IsReplaced, is_variable, scaled, substituted, substituted_atom};
 ghost use Rattle.spf_term.specs.Value.{value};
-ghost use Rattle.spf_term.specs.Wide.{plain, plain_atom, plain_mono};
+ghost use Rattle.spf_term.specs.Wide.{HasOpposites, plain, plain_atom, plain_mono};
 ghost use Rattle.spf_term.specs.declared.term.Term.{Term, out-Term};
 
 use crate::collect::collected;
@@ -81,12 +81,18 @@ fn substituted_wide_atom(
 /// The normal form of the term with `by` in place of the variable, with wide numbers. For n monomials with those that come
 /// in place of the variable, nested ones counted, it takes n log n comparisons of atoms and memory for n.
 #[cycle(substituted)]
-fn substituted_wide(alloc: Global, term: &Term, var: u32, by: &Term) -> Result<WideTerm, NoMemory>
+pub fn substituted_wide(
+    alloc: Global,
+    term: &Term,
+    var: u32,
+    by: &Term,
+) -> Result<WideTerm, NoMemory>
     requires normal { IsNormal term.now }
     requires keeps { excess term.now ≡ None }
     requires normal_by { IsNormal by.now }
     requires keeps_by { excess by.now ≡ None }
-    ensures { IfOk result (λ made. plain made ≡ normal (substituted var by.now term.now)) }
+    ensures form { IfOk result (λ made. plain made ≡ normal (substituted var by.now term.now)) }
+    ensures opposites { IfOk result (λ made. HasOpposites (plain made)) }
 {
     let mut monos = Vec::new(alloc);
     let mut constant = i128::from(term.constant);

@@ -11,7 +11,7 @@ use std::cmp::Ordering;
 /// An `Atom` with a wide argument.
 #[cycle(wide)]
 #[derive(Drop)]
-pub(crate) enum WideAtom {
+pub enum WideAtom {
     Var(u32),
     Param(u32),
     App { fun: u32, arg: WideTerm },
@@ -20,7 +20,7 @@ pub(crate) enum WideAtom {
 /// A `Mono` with a wide coefficient.
 #[cycle(wide)]
 #[derive(Drop)]
-pub(crate) struct WideMono {
+pub struct WideMono {
     pub coef: i128,
     pub atom: WideAtom,
 }
@@ -28,7 +28,7 @@ pub(crate) struct WideMono {
 /// A `Term` with wide numbers.
 #[cycle(wide)]
 #[derive(Drop)]
-pub(crate) struct WideTerm {
+pub struct WideTerm {
     pub monos: Items<WideMono>,
     pub constant: i128,
 }

@@ -6,7 +6,7 @@ use Rattle.std.specs.List.{find}
 use Rattle.spf_term.specs.NumberRule.{is_outside, mono_numbers, numbers}
 use Rattle.spf_term.specs.Wide.{plain, plain_mono}
 use Rattle.spf_term.specs.declared.wide.WideTerm.{out-WideTerm}
-use Rattle.spf_term.proofs.Narrowed.{all_made, found_here, last_number, not_here, whole_refused, wide_numbers_are}
+use Rattle.spf_term.proofs.NarrowParts.{all_made, found_here, last_number, not_here, whole_refused, wide_numbers_are}
 use Rattle.spf_term.proofs.Numbers.{list_numbers}
 use Rattle.spf_term.proofs.narrow.+narrowed.Goals as goal
 

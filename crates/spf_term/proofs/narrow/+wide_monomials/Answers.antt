@@ -1,7 +1,7 @@
 use Rattle.std.proofs.Common.{ℕ, ◌-◌, ◌^◌, ap, sym, ◌∙◌, arith, map, min}
 use Rattle.std.proofs.Math.Nat.{zero-add}
 use Rattle.spf_term.specs.Wide.{plain_mono}
-use Rattle.spf_term.proofs.Narrowed.{wide_monomials_are}
+use Rattle.spf_term.proofs.NarrowParts.{wide_monomials_are}
 use Rattle.spf_term.proofs.Numbers.{list_monomials}
 use Rattle.spf_term.proofs.narrow.+wide_monomials.Goals as goal
 

@@ -1,4 +1,4 @@
-use Rattle.std.proofs.Common.{[], ◌∷◌, ◌++◌, ◌+◌, ◌+ℤ◌, ◌*ℤ◌, if◌then◌else◌, ℤ, pos, map, ap, sym, ◌∙◌, subst, rules, w64, to_z, FitsSigned}
+use Rattle.std.proofs.Common.{[], ◌∷◌, ◌++◌, ◌+◌, ◌<◌, ◌^◌, unsigned_abs, ◌+ℤ◌, ◌*ℤ◌, if◌then◌else◌, ℤ, pos, map, ap, sym, ◌∙◌, subst, rules, w64, to_z, FitsSigned}
 use Rattle.std.proofs.lemmas.Int.{to_z-of_z}
 use Rattle.std.proofs.lemmas.List.{map-append, take_all}
 use Rattle.std.specs.Int.{w128}
@@ -7,7 +7,8 @@ use Rattle.spf_term.specs.Substitution.{scaled, substituted_atom}
 use Rattle.spf_term.specs.Wide.{plain_mono}
 use Rattle.spf_term.specs.declared.term.Term.{out-Term, the_lemmas}
 use Rattle.spf_term.proofs.NormalForms.{each_normal}
-use Rattle.spf_term.proofs.Parts.{constant_fits, constant_more, constant_same, gone_on, parts_fit}
+use Rattle.spf_term.proofs.Turning.{made_opposites}
+use Rattle.spf_term.proofs.Parts.{constant_fits, constant_more, constant_small, constant_same, gone_on, parts_fit}
 use Rattle.spf_term.proofs.Rule.{keeps_at}
 use Rattle.spf_term.proofs.Settled.{normal_at}
 use Rattle.spf_term.proofs.Substituted.{constants, normal_substituted_is, parts}
@@ -77,9 +78,15 @@ substituted_wide-collected-requires-clause-fits t c =
     parts_fit c.args.var c.args.by.now c.requires.normal_by c.requires.keeps_by c.args.term.now c.requires.normal c.requires.keeps (map plain_mono c.loop-mono.monos.items)
     (c.loop-mono.invariant.made ∙ ap (λ of. map normal_mono (parts c.args.var c.args.by.now of)) all)
 
-pub substituted_wide-returns : goal.substituted_wide-returns
-substituted_wide-returns t c =
+pub substituted_wide-returns-clause-form : goal.substituted_wide-returns-clause-form
+substituted_wide-returns-clause-form t c =
     let all = take_all c.loop-mono.mono-index c.as_slice-mono-items.result.now c.loop-mono-test.false ∙ c.as_slice-mono-items.ensures in
-    let monos = c.in_ok-collected.ensures ∙ ap all_added (c.loop-mono.invariant.made ∙ ap (λ of. map normal_mono (parts c.args.var c.args.by.now of)) all) in
+    let monos = c.in_ok-collected.ensures.form ∙ ap all_added (c.loop-mono.invariant.made ∙ ap (λ of. map normal_mono (parts c.args.var c.args.by.now of)) all) in
     let constant = c.loop-mono.invariant.sum ∙ ap (λ of. (out-Term c.args.term.now).constant +ℤ constants c.args.var c.args.by.now of) all in
     plain_made c.in_ok-collected.field-0 _ ∙ (λ i. sum_of (monos i) (constant i)) ∙ sym (normal_substituted_is c.args.var c.args.by.now c.args.term.now)
+
+pub substituted_wide-returns-clause-opposites : goal.substituted_wide-returns-clause-opposites
+substituted_wide-returns-clause-opposites t c =
+    made_opposites c.in_ok-collected.field-0 _ c.in_ok-collected.ensures.fits
+    (subst (λ number. unsigned_abs number < 2 ^ 127) (sym c.loop-mono.invariant.sum)
+    (constant_small c.args.var c.args.by.now c.requires.normal_by c.requires.keeps_by c.args.term.now c.requires.normal c.requires.keeps c.as_slice-mono-items.result.now c.as_slice-mono-items.ensures c.loop-mono.mono-index))
