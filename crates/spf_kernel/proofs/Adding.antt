@@ -1,6 +1,6 @@
 -- What the rules ask of the facts, with one fact more.
 use Rattle.spf_kernel.proofs.Common.{Note, fact_of, ◌≡◌, ℕ, ◌+◌, ◌<◌, ◌≤◌, Bool, true, false, not, List, [], ◌∷◌, ◌++◌, length, take, refl, ap, sym, ◌∙◌, arith, common_steps, length-take, sum_by_push, sum_by-cons, Says, IsBelow, Fact, is_param, is_table, is_data, is_loop, is_site, count_that, map, filter, append-nil, subst, map_push, map-append, bytes_eq, insert_key, Before, names_that, cond, reverse, take_while, reverse-append, length-reverse, prefix_len, count_by-le-length, fold_push, counts_of, is_target, is_factor, is_guard, is_condition, since, filter-append, once, before_of}
-use Rattle.spf_kernel.specs.declared.counts.Counts.{Counts}
+use Rattle.spf_kernel.specs.declared.check.counts.Counts.{Counts}
 
 -- one more, where the test holds
 abbrev pub more : Bool → ℕ → ℕ

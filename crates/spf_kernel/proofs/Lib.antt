@@ -22,7 +22,7 @@ pub mod Pieces
 pub mod PrintEquations
 pub mod PrintedConstants
 pub mod PrintedParses
-pub mod Signs
+pub mod SignedNumbers
 pub mod SiteSums
 pub mod TermEquations
 pub mod TokenLeaves

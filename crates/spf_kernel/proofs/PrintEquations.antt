@@ -1,6 +1,6 @@
 -- What a printed term or value is, over the lists that its rows are.
 use Rattle.spf_kernel.proofs.Common.{◌≡◌, ℕ, ◌-◌, ◌<◌, ◌≤◌, ℤ, List, [], ◌∷◌, ◌++◌, codes, length, take, drop, get_or, flat_map, unsigned_abs, refl, ap, ◌∙◌, sym, arith, append-nil, take_all, take_more, common_steps, Bool, ◌+◌, is_negative, Term, Term', Row_of-Mono, end_of-Mono, more_of-Mono, items-the_row-Mono, items_shown-the_row-Mono-0, Mono, TreeNames, Value, Value', Row_of-Prod, end_of-Prod, more_of-Prod, items-the_row-Prod, items_shown-the_row-Prod-1, Row_of-Factor, end_of-Factor, more_of-Factor, items-the_row-Factor, items_shown-the_row-Factor-0, Prod, value_words, fact_words, prod_words, sign_word, lead_words, only_number, further_number, term_words, mono_words, further_mono, length-take-le, out-Term, out-Value}
-use Rattle.spf_kernel.specs.Printed.{prods_words, further_prods, facts_words, further_facts, separator, sign_at, separated, signed, sum_words, monos_words}
+use Rattle.spf_kernel.specs.printing.Printed.{prods_words, further_prods, facts_words, further_facts, separator, sign_at, separated, signed, sum_words, monos_words}
 
 -- a list with a first element, as a pattern of a slice sees it
 pub split_first : {A : Type 0} (xs : List A) (x : A) → 0 < length xs → x ≡ get_or xs 0 x → xs ≡ x ∷ take (length xs - 1) (drop 1 xs)

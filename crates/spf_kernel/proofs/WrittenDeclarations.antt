@@ -93,7 +93,7 @@ module _ (s : Source) where
   index_written : AreWritten s syntax.index decl_as
   unfolding syntax.index
   index_written =
-      made_of (led_by (small_fixed bundle_words Kind.Index (codes "index") refl refl) (a_sized & led_by in_word (a_head & led_by range_word (a_head & ended_by semicolon (a_sign syntax.trend (λ trend. trend) trend_words trend_written))))) decl_as
+      made_of (led_by (small_fixed bundle_words Kind.Index (codes "index") refl refl) (a_sized & led_by in_word (a_head & led_by range_word (a_head & ended_by semicolon (a_sign syntax.trend trend_words trend_written))))) decl_as
       (λ x. RawDecl.Index x.0 x.1.0 x.1.1.0 x.1.1.1)
       (record {
         fit = λ r fit. subst (AreFit s) (three_notes (head_notes r.0.size) (head_notes r.1.0) (head_notes r.1.1.0)) fit.1;

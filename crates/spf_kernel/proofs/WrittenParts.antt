@@ -1,6 +1,6 @@
 -- What is written again where its parts are: words in front and behind, two parts, choices, lists, and what is made of a part.
-use Rattle.spf_kernel.proofs.Common.{◌≡◌, ℕ, ◌+◌, Bool, true, false, ◌&&◌, List, [], ◌∷◌, ◌++◌, length, map, flat_map, refl, ap, sym, subst, inl, inr, same_kind, Production, ◌<$>◌, ◌or◌, token, many, and_more, Token, Kind, split_each, Holds, holds_both, word_alone, behind_word, behind_part, on_left, on_right, none_more, one_more, in_words, Note, facts_of, text_of, ◌>>=◌, production, last, behind, separated, Leaves, Syntax}
-use Rattle.spf_kernel.specs.Printed as printed
+use Rattle.spf_kernel.proofs.Common.{◌≡◌, ℕ, ◌+◌, Bool, true, false, ◌&&◌, List, [], ◌∷◌, ◌++◌, length, map, flat_map, refl, sym, subst, inl, inr, same_kind, Production, ◌<$>◌, ◌or◌, token, many, and_more, Token, Kind, split_each, Holds, holds_both, word_alone, behind_word, behind_part, on_left, on_right, none_more, one_more, in_words, Note, facts_of, text_of, ◌>>=◌, production, last, behind, separated, Leaves, Syntax}
+use Rattle.spf_kernel.specs.printing.Printed as printed
 use Rattle.spf_kernel.proofs.Adding.{more}
 use Rattle.spf_kernel.proofs.NamedUses.{IsFitting}
 use Rattle.spf_kernel.proofs.Written.{Source, Meaning, AreWritten, AreFit, IsFixedWord, name_written, same_append}
@@ -43,8 +43,8 @@ abbrev pub each_of : {R A : Type 0} → Meaning R A → (List A → List (List �
 each_of of words = record { means = map of.means; means_again = map of.means_again; notes = flat_map of.notes; notes_again = flat_map of.notes_again; words = words }
 
 -- of a sign, which has no notes
-abbrev pub sign_as : {R A : Type 0} → (R → A) → (A → List (List ℕ)) → Meaning R A
-sign_as means words = record { means = means; means_again = means; notes = λ r. []; notes_again = λ r. []; words = words }
+abbrev pub sign_as : {A : Type 0} → (A → List (List ℕ)) → Meaning A A
+sign_as words = record { means = λ x. x; means_again = λ x. x; notes = λ r. []; notes_again = λ r. []; words = words }
 
 -- of a name, by its text
 abbrev pub name_as : Source → Meaning Token (List ℕ)
@@ -163,11 +163,10 @@ module _ {s : Source} where
 
   -- ---- tokens
 
-  pub sign_written : {R A : Type 0} {empty : Bool} (p : Production same_kind empty R) (means : R → A) (words : A → List (List ℕ)) → ((r : R) (at : ℕ) → IsRead p (λ x. x) r (words (means r)) at)
-      → AreWritten s p (sign_as means words)
-  sign_written p means words reads d leaves fit at holds =
+  pub sign_written : {A : Type 0} {empty : Bool} (p : Production same_kind empty A) (words : A → List (List ℕ)) → ((a : A) (at : ℕ) → IsRead p (λ x. x) a (words a) at) → AreWritten s p (sign_as words)
+  sign_written p words reads d leaves fit at holds =
       let is = reads (p.make d) at in
-      record { text = is.text; means = ap means is.same; same = refl }
+      record { text = is.text; means = is.same; same = refl }
 
   pub any_name_written : AreWritten s (token Kind.Name) (name_as s)
   unfolding Leaves
@@ -207,8 +206,8 @@ module _ {s : Source} where
   abbrev pub parted_by : {R A : Type 0} {k : Kind} {word : List ℕ} → IsFixedWord k word → Written s false R A → Written s false (List R) (List A)
   parted_by {k = k} {word} fixed x = record { form = separated k x.form; of = each_of x.of (printed.separated word x.of.words); again = separated_written x.form x.of fixed x.again }
 
-  abbrev pub a_sign : {R A : Type 0} {empty : Bool} (p : Production same_kind empty R) (means : R → A) (words : A → List (List ℕ)) → ((r : R) (at : ℕ) → IsRead p (λ x. x) r (words (means r)) at) → Written s empty R A
-  a_sign p means words reads = record { form = p; of = sign_as means words; again = sign_written p means words reads }
+  abbrev pub a_sign : {A : Type 0} {empty : Bool} (p : Production same_kind empty A) (words : A → List (List ℕ)) → ((a : A) (at : ℕ) → IsRead p (λ x. x) a (words a) at) → Written s empty A A
+  a_sign p words reads = record { form = p; of = sign_as words; again = sign_written p words reads }
 
   abbrev pub a_name : Written s false Token (List ℕ)
   a_name = record { form = token Kind.Name; of = name_as s; again = any_name_written }

@@ -1,5 +1,5 @@
 -- Signs are read again from the words that they are printed as.
-use Rattle.spf_kernel.proofs.Common.{Compare, Kind, ◌≡◌, ℕ, ◌≤◌, ◌^◌, ◌==◌, Bool, true, false, if◌then◌else◌, List, [], ◌∷◌, is_some, decimal, codes, refl, bundle_words, same_kind, Production, token, flag, one_of, Token, small_fixed, symbol_fixed, word_alone, on_left, on_right, Trend, sign_word, lead_words, becomes_word, compare_word, trend_words, optional, number_fixed, number_value, no_words, becomes}
+use Rattle.spf_kernel.proofs.Common.{Becomes, Compare, Kind, ◌≡◌, ℕ, ◌≤◌, ◌^◌, ◌==◌, Bool, true, false, if◌then◌else◌, List, [], ◌∷◌, is_some, decimal, codes, refl, bundle_words, same_kind, Production, token, flag, one_of, Token, small_fixed, symbol_fixed, word_alone, on_left, on_right, Trend, sign_word, lead_words, becomes_word, compare_word, trend_words, optional, number_fixed, number_value, no_words}
 use Rattle.spf_kernel.specs.Productions as syntax
 use Rattle.spf_kernel.proofs.Written.{AreText, IsFixedWord}
 
@@ -34,10 +34,10 @@ pub summand_lead_written : (minus : Bool) (at : ℕ) → IsRead (flag Kind.Minus
 summand_lead_written true at = record { text = on_left (word_alone at minus_word); same = refl }
 summand_lead_written false at = record { text = on_right (no_words at); same = refl }
 
-pub becomes_written : (adds : Bool) (at : ℕ) → IsRead syntax.becomes (λ b. b) adds (becomes_word (becomes adds) ∷ []) at
+pub becomes_written : (sign : Becomes) (at : ℕ) → IsRead syntax.becomes (λ x. x) sign (becomes_word sign ∷ []) at
 unfolding syntax.becomes
-becomes_written true at = record { text = on_right (word_alone at (symbol_fixed bundle_words Kind.PlusEquals (codes "+=") refl refl)); same = refl }
-becomes_written false at = record { text = on_left (word_alone at (symbol_fixed bundle_words Kind.Equals (codes "=") refl refl)); same = refl }
+becomes_written Becomes.Add at = record { text = on_right (word_alone at (symbol_fixed bundle_words Kind.PlusEquals (codes "+=") refl refl)); same = refl }
+becomes_written Becomes.Put at = record { text = on_left (word_alone at (symbol_fixed bundle_words Kind.Equals (codes "=") refl refl)); same = refl }
 
 pub compare_written : (sign : Compare) (at : ℕ) → IsRead syntax.compare (λ x. x) sign (compare_word sign ∷ []) at
 unfolding syntax.compare

@@ -1,5 +1,5 @@
 -- Assignments, conditions, guarded assignments and ranges are written again.
-use Rattle.spf_kernel.proofs.Common.{Assign, Cond, Guard, Says, Kind, ◌≡◌, ℕ, Bool, true, false, List, [], ◌∷◌, ◌++◌, refl, ap, codes, bundle_words, ◌<$>◌, small_fixed, symbol_fixed, Term, Spot, RawIx, RawValue, RawAssign, RawCond, RawGuard, RawRange, RawPart, Value, fact_of, text_of, fact_with, Names, number_of, expression_notes, assign_notes, cond_notes, guard_notes, part_notes, conds_head, mark, becomes_word, compare_word, assign_words, cond_words, part_words, range_words, term_of, assign_of, cond_of, guard_of, part_of, is_data, takes_data, Part, ix_head, guard_words, becomes}
+use Rattle.spf_kernel.proofs.Common.{Assign, Cond, Guard, Says, Kind, ◌≡◌, ℕ, Bool, true, false, List, [], ◌∷◌, ◌++◌, refl, ap, codes, bundle_words, ◌<$>◌, small_fixed, symbol_fixed, Term, Spot, RawIx, RawValue, RawAssign, RawCond, RawGuard, RawRange, RawPart, Value, fact_of, text_of, fact_with, Names, number_of, expression_notes, assign_notes, cond_notes, guard_notes, part_notes, conds_head, mark, becomes_word, compare_word, assign_words, cond_words, part_words, range_words, term_of, assign_of, cond_of, guard_of, part_of, is_data, takes_data, Part, ix_head, guard_words}
 use Rattle.spf_kernel.specs.Productions as syntax
 use Rattle.spf_kernel.proofs.FittingNames.{number_declared}
 use Rattle.spf_kernel.proofs.Written.{in_scope, IsFixedWord, Source, Context, source, names_in, shown_in, Meaning, AreWritten, vars_in}
@@ -68,12 +68,12 @@ module _ (c : Context) where
   assign_written : AreWritten s syntax.assign assign_as
   unfolding syntax.assign
   assign_written =
-      made_of (a_name & a_size c Spot.Body refl & a_sign syntax.becomes becomes (λ sign. becomes_word sign ∷ []) becomes_written & ended_by semicolon a_value) assign_as
-      (λ x. record { array = x.0; at = x.1.0; adds = x.1.1.0; value = x.1.1.1 })
+      made_of (a_name & a_size c Spot.Body refl & a_sign syntax.becomes (λ sign. becomes_word sign ∷ []) becomes_written & ended_by semicolon a_value) assign_as
+      (λ x. record { array = x.0; at = x.1.0; sign = x.1.1.0; value = x.1.1.1 })
       (record {
         fit = λ r fit. fit.1;
         words = λ r fit.
-            let after = (bracketed body_ix & a_sign syntax.becomes becomes (λ sign. becomes_word sign ∷ []) becomes_written & ended_by semicolon a_value).of in
+            let after = (bracketed body_ix & a_sign syntax.becomes (λ sign. becomes_word sign ∷ []) becomes_written & ended_by semicolon a_value).of in
             ap (λ (array : List ℕ). array ∷ after.words (after.means r.1)) (number_declared is_data c.facts (text_of c.texts r.0) fit.0).named;
         means = λ r again same i. record { array = number_of names.data_arrays (same i).0; sub = (same i).1.0; sign = (same i).1.1.0; value = (same i).1.1.1 };
         same = λ r again same facts i. fact_with (Says.Used true Spot.Target) (same i).0 (c.scoped i) ∷ facts i;
@@ -90,7 +90,7 @@ module _ (c : Context) where
   cond_written : AreWritten s syntax.cond cond_as
   unfolding syntax.cond
   cond_written =
-      made_of (body_ix & a_sign syntax.compare (λ sign. sign) (λ sign. compare_word sign ∷ []) compare_written & body_ix) cond_as (λ x. record { left = x.0; sign = x.1.0; right = x.1.1 })
+      made_of (body_ix & a_sign syntax.compare (λ sign. compare_word sign ∷ []) compare_written & body_ix) cond_as (λ x. record { left = x.0; sign = x.1.0; right = x.1.1 })
       (record {
         fit = λ r fit. fit.1;
         words = λ r fit. refl;

@@ -1,7 +1,7 @@
 -- Values are written again: the words that a value is printed as are read as the same value.
 use Rattle.spf_kernel.proofs.Common.{Spot, Says, ◌≡◌, ℕ, zero, suc, ◌+◌, ◌≤◌, ◌^◌, Bool, true, false, List, [], ◌∷◌, ◌++◌, map, flat_map, Option, None, Some, is_some, refl, ap, sym, ◌∙◌, subst, inl, inr, codes, if◌then◌else◌, list_any, bytes_eq, bundle_words, same_kind, Derivation, Lexed, Production, ◌<$>◌, flag, between, and_more, one_of, Token, Kind, symbol_fixed, Holds, stands_inside, behind_word, on_left, absent, Term, Note, Used, Scope, RawIx, out-roll-RawAtom, RawValue, RawSummand, RawFactor, Value, roll-Value, out-roll-Value, Prod, Factor, fact_of, facts_of, text_of, Names, number_of, note, value_notes, fact_notes, subscript_notes, mark, sign_word, lead_words, term_words, fact_words, prod_words, value_words, named, variable_of, table_of, data_array_of, is_data_array, bare_factor, term_of, factor_of, factor_at, product, separated, Leaves, roll-RawValue, out-roll-RawValue, Syntax, value_of}
 use Rattle.spf_kernel.specs.declared.raw.RawFactor.TheVariants as raw_factor
-use Rattle.spf_kernel.specs.Printed as printed
+use Rattle.spf_kernel.specs.printing.Printed as printed
 use Rattle.spf_kernel.specs.Productions as syntax
 use Rattle.spf_kernel.proofs.FittingNames.{IsBare, IsEntry, entry_fits}
 use Rattle.spf_kernel.proofs.NamedUses.{IsFitting}
@@ -138,9 +138,9 @@ module _ (c : Context) where
     summand_written : {empty : Bool} (p : Production same_kind empty Bool) (sign : Bool → List (List ℕ)) → ((minus : Bool) (at : ℕ) → IsRead p (λ b. b) minus (sign minus) at)
         → AreWritten s ((λ x. syntax.summand x.0 x.1) <$> both p (separated Kind.Star f)) (worded summand_as (with_sign sign))
     summand_written p sign reads =
-        made_written (both p (separated Kind.Star f)) (pair_of (sign_as (λ b. b) sign) facts_as) (worded summand_as (with_sign sign)) (λ x. syntax.summand x.0 x.1)
+        made_written (both p (separated Kind.Star f)) (pair_of (sign_as sign) facts_as) (worded summand_as (with_sign sign)) (λ x. syntax.summand x.0 x.1)
         (record { fit = λ r fit. fit; words = λ r fit. refl; means = λ r again same i. product (same i).0 (same i).1; same = λ r again same facts. facts })
-        (both_written p (separated Kind.Star f) (sign_as (λ b. b) sign) facts_as (sign_written p (λ b. b) sign reads)
+        (both_written p (separated Kind.Star f) (sign_as sign) facts_as (sign_written p sign reads)
         (separated_written f (fact_as c) (symbol_fixed bundle_words Kind.Star (codes "*") refl refl) one))
 
     abbrev row_words : List Prod → List (List ℕ)

@@ -10,7 +10,7 @@ use Rattle.spf_kernel.specs.Names.{names_of}
 use Rattle.spf_kernel.specs.Notes.{kernel_notes}
 use Rattle.spf_kernel.specs.Resolved.{tree_of}
 use Rattle.spf_kernel.specs.Rules.{IsUnbroken, IsFirstBreach}
-use Rattle.spf_kernel.specs.Stands.{StandsAt, IsSyntaxFault}
+use Rattle.spf_kernel.specs.read.Stands.{StandsAt, IsSyntaxFault}
 
 -- what a raw tree means
 abbrev pub meaning : List (List ℕ) → RawKernel → Tree

@@ -3,6 +3,7 @@ use Rattle.std.specs.Prelude.{ℕ, zero, suc, ◌-◌, Bool, true, false, [], �
 use Rattle.spf_lex.specs.BundleWords.{same_kind}
 use Rattle.spf_lex.specs.Production.{Production, ◌>>=◌, ◌>>◌, ◌<$>◌, ◌or◌, production, last, token, nothing, optional, flag, many, and_more, separated, one_of, behind, between}
 use Rattle.spf_kernel.specs.Types.{Kind, Token, BRACKETS, PARENTHESES, RawIx, roll-RawIx, RawStep, roll-RawStep, RawMono, RawAtom, roll-RawAtom, RawValue, roll-RawValue, RawSummand, roll-RawSummand, RawFactor, RawAssign, RawCond, RawGuard, RawRange, RawPart, RawItem, RawLoop, RawSized, RawDecl, RawKernel, Compare, Trend}
+unfoldable pub use Rattle.spf_kernel.specs.Signs.{becomes}
 use Rattle.spf_kernel.specs.declared.raw.RawMono.TheVariants as mono_is
 use Rattle.spf_kernel.specs.declared.raw.RawFactor.TheVariants as factor_is
 
@@ -105,16 +106,13 @@ value depth = value_of (fact depth)
 
 -- ---- statements
 
-unfoldable pub becomes : Syntax Bool
-becomes = one_of (Kind.Equals, false) ((Kind.PlusEquals, true) ∷ [])
-
 unfoldable pub assign : Syntax RawAssign
 assign = production (do
   array ← token Kind.Name
   at ← in_brackets
-  adds ← becomes
+  sign ← becomes
   value ← value PARENTHESES
-  last (token Kind.Semicolon) (λ _. record { array = array; at = at; adds = adds; value = value }))
+  last (token Kind.Semicolon) (λ _. record { array = array; at = at; sign = sign; value = value }))
 
 unfoldable pub compare : Syntax Compare
 compare =

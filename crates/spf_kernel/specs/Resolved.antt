@@ -5,7 +5,7 @@ use Rattle.std.specs.Option.{option_map}
 use Rattle.std.specs.Str.{bytes_eq}
 use Rattle.spf_base.specs.Word.{IsName}
 use Rattle.spf_base.specs.Wrap.{wrap}
-use Rattle.spf_kernel.specs.Types.{Term, roll-Term, Mono, roll-Mono, Token, Scope, RawIx, RawIx', out-RawIx, Row_of-RawStep, end_of-RawStep, more_of-RawStep, RawStep, RawMono, Number', RawMono-Number-1-None', RawMono-Number-1-Some', RawAtom, out-RawAtom, RawAtom', RawAtom-at-None', RawAtom-at-Some', end_of-RawIx, more_of-RawIx, RawValue, RawValue', Row_of-RawFactor, end_of-RawFactor, more_of-RawFactor, Row_of-RawSummand, end_of-RawSummand, more_of-RawSummand, RawFactor, Paren', end_of-RawValue, more_of-RawValue, RawAssign, RawCond, RawGuard, RawPart, RawItem, RawLoop, RawSized, RawDecl, RawKernel, Note, Value, roll-Value, Prod, roll-Prod, Factor, Becomes, Assign, Cond, Guard, Part, Item, Loop, DataDecl, Decl, Trend, Tree}
+use Rattle.spf_kernel.specs.Types.{Term, roll-Term, Mono, roll-Mono, Token, Scope, RawIx, RawIx', out-RawIx, Row_of-RawStep, end_of-RawStep, more_of-RawStep, RawStep, RawMono, Number', RawMono-Number-1-None', RawMono-Number-1-Some', RawAtom, out-RawAtom, RawAtom', RawAtom-at-None', RawAtom-at-Some', end_of-RawIx, more_of-RawIx, RawValue, RawValue', Row_of-RawFactor, end_of-RawFactor, more_of-RawFactor, Row_of-RawSummand, end_of-RawSummand, more_of-RawSummand, RawFactor, Paren', end_of-RawValue, more_of-RawValue, RawAssign, RawCond, RawGuard, RawPart, RawItem, RawLoop, RawSized, RawDecl, RawKernel, Note, Value, roll-Value, Prod, roll-Prod, Factor, Assign, Cond, Guard, Part, Item, Loop, DataDecl, Decl, Trend, Tree}
 use Rattle.spf_term.specs.declared.term.Atom.{Atom}
 use Rattle.spf_kernel.specs.Facts.{text_of, variables_in}
 use Rattle.spf_kernel.specs.Names.{Names, number_of}
@@ -59,10 +59,6 @@ module _ (texts : List (List ℕ)) (names : Names) where
 
 abbrev pub monomial : Bool → ℕ → Atom → List Mono
 monomial minus number atom = roll-Mono (record { coef = wrap (signed minus number); atom = atom }) ∷ []
-
-abbrev pub becomes : Bool → Becomes
-becomes true = Becomes.Add
-becomes false = Becomes.Put
 
 abbrev pub product : Bool → List Factor → Prod
 product minus facts = roll-Prod (record { minus = minus; facts = facts })
@@ -122,7 +118,7 @@ module _ (texts : List (List ℕ)) (names : Names) (scope : Scope) where
   assign_of assign = record {
     array = data_array_of texts names assign.array;
     sub = term_of assign.at;
-    sign = becomes assign.adds;
+    sign = assign.sign;
     value = value_of assign.value;
   }
 

@@ -1,7 +1,7 @@
 -- The types that the definitions are about, passed on from one place. Declares nothing.
 pub use Rattle.spf_base.specs.declared.place.Place.{Place}
 pub use Rattle.spf_kernel.specs.declared.fault.Unkept.{Unkept}
-pub use Rattle.spf_kernel.specs.declared.ix.TheConstants.{BRACKETS}
+pub use Rattle.spf_kernel.specs.declared.read.ix.TheConstants.{BRACKETS}
 pub use Rattle.spf_kernel.specs.declared.note.Note.{Note}
 pub use Rattle.spf_kernel.specs.declared.note.Says.{Says}
 pub use Rattle.spf_kernel.specs.declared.note.Scope.{Scope}
@@ -39,8 +39,8 @@ pub use Rattle.spf_kernel.specs.declared.tree.Prod.{Prod, roll-Prod}
 pub use Rattle.spf_kernel.specs.declared.tree.Tree.{Tree}
 pub use Rattle.spf_kernel.specs.declared.tree.Trend.{Trend}
 pub use Rattle.spf_kernel.specs.declared.tree.Value.{Row_of-Factor, Row_of-Prod, Value, Value', end_of-Factor, end_of-Prod, more_of-Factor, more_of-Prod, roll-Value}
-pub use Rattle.spf_kernel.specs.declared.tree_names.TreeNames.{TreeNames}
-pub use Rattle.spf_kernel.specs.declared.value.TheConstants.{PARENTHESES}
+pub use Rattle.spf_kernel.specs.declared.printing.tree_names.TreeNames.{TreeNames}
+pub use Rattle.spf_kernel.specs.declared.read.value.TheConstants.{PARENTHESES}
 pub use Rattle.spf_lex.specs.declared.cursor.Token.{Token}
 pub use Rattle.spf_lex.specs.declared.kind.Kind.{Kind}
 pub use Rattle.spf_lex.specs.declared.text_kind.TextKind.{TextKind}

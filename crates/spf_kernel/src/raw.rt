@@ -3,7 +3,7 @@
 //! The rules are about the places of names and numbers, so that they are told of this tree, and resolving its names
 //! gives the public one.
 
-use crate::tree::{Compare, Trend};
+use crate::tree::{Becomes, Compare, Trend};
 use spf_lex::Token;
 use sqlite_items::{Boxed, Items};
 
@@ -68,8 +68,7 @@ pub enum RawFactor {
 pub struct RawAssign {
     pub array: Token,
     pub at: RawIx,
-    /// Whether the sign is `+=`.
-    pub adds: bool,
+    pub sign: Becomes,
     pub value: RawValue,
 }
 

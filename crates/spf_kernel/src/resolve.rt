@@ -16,7 +16,7 @@ mod statements;
 mod terms;
 mod values;
 
-use crate::names::Source;
+use crate::check::names::Source;
 use crate::note::Scope;
 use crate::raw::RawKernel;
 use crate::tree::Tree;

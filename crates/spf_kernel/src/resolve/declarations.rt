@@ -7,7 +7,7 @@ ghost use Rattle.spf_kernel.specs.Facts.{text_of};
 ghost use Rattle.spf_kernel.specs.Notes.{param_note, cells_notes, decl_notes};
 ghost use Rattle.spf_kernel.specs.Resolved.{AreNames, data_decl_of, table_decl_of, decl_of};
 
-use crate::names::{Source, text_of};
+use crate::check::names::{Source, text_of};
 use crate::note::Scope;
 use crate::raw::{RawDecl, RawIx, RawSized};
 use crate::resolve::terms::resolve_ix;

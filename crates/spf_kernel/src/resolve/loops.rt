@@ -5,7 +5,7 @@ ghost use Rattle.spf_lex.specs.Tokens.{texts};
 ghost use Rattle.spf_kernel.specs.Notes.{item_notes, loop_notes};
 ghost use Rattle.spf_kernel.specs.Resolved.{AreNames, item_of, loop_of};
 
-use crate::names::Source;
+use crate::check::names::Source;
 use crate::note::Scope;
 use crate::raw::{RawItem, RawLoop, RawPart};
 use crate::resolve::declarations::resolve_name;
@@ -23,10 +23,7 @@ fn resolve_item(source: &Source, outer: Token, item: &RawItem) -> Result<Item, N
 {
     let within = Scope::Within(outer);
     match item {
-        RawItem::Part(RawPart::Assign(assign)) => {
-            let assign = assign.resolve(source, within)?;
-            Ok(Item::Assign(assign))
-        }
+        RawItem::Part(RawPart::Assign(assign)) => Ok(Item::Assign(assign.resolve(source, within)?)),
         RawItem::Part(RawPart::Guard(guard)) => {
             let guard = resolve_guard(source, within, guard)?;
             Ok(Item::Branch(guard))

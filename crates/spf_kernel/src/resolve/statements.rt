@@ -2,22 +2,16 @@
 
 ghost use Rattle.std.specs.Prelude.{◌≡◌, IfOk, ⊤};
 ghost use Rattle.spf_lex.specs.Tokens.{texts};
-ghost use Rattle.spf_kernel.specs.Resolved.{becomes, assign_of, cond_of, guard_of, part_of};
+ghost use Rattle.spf_kernel.specs.Resolved.{assign_of, cond_of, guard_of, part_of};
 
-use crate::names::{Source, text_of};
+use crate::check::names::{Source, text_of};
 use crate::note::Scope;
 use crate::raw::{RawAssign, RawCond, RawGuard, RawPart};
 use crate::resolve::terms::resolve_ix;
 use crate::resolve::values::resolve_value;
 use crate::resolve::{Means, resolve_all};
-use crate::tree::{Assign, Becomes, Cond, Guard, Part};
+use crate::tree::{Assign, Cond, Guard, Part};
 use spf_base::NoMemory;
-
-fn becomes(adds: bool) -> Becomes
-    ensures { result ≡ becomes adds }
-{
-    if adds { Becomes::Add } else { Becomes::Put }
-}
 
 impl Means for RawAssign {
     type Tree = Assign;
@@ -30,7 +24,7 @@ impl Means for RawAssign {
         Ok(Assign {
             array: source.names.data_array(text_of(source.tokens, self.array)),
             sub: resolve_ix(source, scope, &self.at)?,
-            sign: becomes(self.adds),
+            sign: self.sign,
             value: resolve_value(source, scope, &self.value)?,
         })
     }
@@ -75,14 +69,8 @@ impl Means for RawPart {
 
     fn resolve(&self, source: &Source, scope: Scope) -> Result<Part, NoMemory> {
         match self {
-            RawPart::Assign(assign) => {
-                let assign = assign.resolve(source, scope)?;
-                Ok(Part::Assign(assign))
-            }
-            RawPart::Guard(guard) => {
-                let guard = resolve_guard(source, scope, guard)?;
-                Ok(Part::Branch(guard))
-            }
+            RawPart::Assign(assign) => Ok(Part::Assign(assign.resolve(source, scope)?)),
+            RawPart::Guard(guard) => Ok(Part::Branch(resolve_guard(source, scope, guard)?)),
         }
     }
 }

@@ -6,7 +6,7 @@ ghost use Rattle.spf_lex.specs.Tokens.{texts};
 ghost use Rattle.spf_kernel.specs.Facts.{text_of, variables_in};
 ghost use Rattle.spf_kernel.specs.Resolved.{signed, alone_of, constant_of, variable_of, bare_atom, atom_of, monos_of, term_of};
 
-use crate::names::{Source, text_of};
+use crate::check::names::{Source, text_of};
 use crate::note::Scope;
 use crate::raw::{RawAtom, RawIx, RawMono};
 use spf_base::{NoMemory, wadd, wsub};
@@ -23,7 +23,7 @@ fn signed(minus: bool, number: u64) -> i64
 }
 
 /// The part of the constant that a monomial is.
-#[tactic(auto, using(crate::proofs::Signs::wrap_zero))]
+#[tactic(auto, using(crate::proofs::SignedNumbers::wrap_zero))]
 fn alone(minus: bool, mono: &RawMono) -> i64
     ensures { result ≡ wrap (alone_of minus mono.now) }
 {

@@ -5,7 +5,7 @@ ghost use Rattle.spf_lex.specs.Tokens.{texts};
 ghost use Rattle.spf_kernel.specs.Facts.{text_of, variables_in};
 ghost use Rattle.spf_kernel.specs.Resolved.{variable_of, bare_factor, name_factor, factor_of, product, value_of};
 
-use crate::names::{Source, text_of};
+use crate::check::names::{Source, text_of};
 use crate::note::Scope;
 use crate::raw::{RawAtom, RawFactor, RawSummand, RawValue};
 use crate::resolve::terms::{resolve_ix, variable};

@@ -1,6 +1,6 @@
 use Rattle.spf_kernel.proofs.Common.{arith, fold, is_some, pos, take, ◌+ℤ◌, common_steps, RawStep, alone_of}
 use Rattle.spf_kernel.proofs.resolve.terms.constant.Goals as goal
-use Rattle.spf_kernel.proofs.Signs.{wrap_sum, wrap_zero}
+use Rattle.spf_kernel.proofs.SignedNumbers.{wrap_sum, wrap_zero}
 
 pub loop-step-init : goal.loop-step-init
 loop-step-init c = wrap_zero

@@ -1,6 +1,6 @@
 use Rattle.spf_kernel.proofs.Common.{arith, common_steps}
 use Rattle.spf_kernel.proofs.resolve.terms.signed.Goals as goal
-use Rattle.spf_kernel.proofs.Signs.{wrap_pos, wrap_neg}
+use Rattle.spf_kernel.proofs.SignedNumbers.{wrap_pos, wrap_neg}
 
 pub returns-then-minus : goal.returns-then-minus
 returns-then-minus c =

@@ -1,5 +1,0 @@
-use Rattle.spf_kernel.proofs.raw_kernel.one_raw_tree.Goals as goal
-use Rattle.spf_kernel.proofs.OneKernel.{one_tree}
-
-pub returns : goal.returns
-returns c = one_tree
