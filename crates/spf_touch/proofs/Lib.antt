@@ -9,5 +9,7 @@ pub mod Members
 pub mod Noted
 pub mod Orders
 mod Performed
+mod Renamed
+mod RenamedActions
 pub mod Rows
 pub mod Swaps

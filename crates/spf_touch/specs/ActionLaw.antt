@@ -1,5 +1,5 @@
 -- The frame law of units that are lists of actions.
-use Rattle.std.specs.Prelude.{◌≡◌, ℕ, ◌<◌, ℤ, ◌+ℤ◌, Bool, true, false, List, [], ◌∷◌, Option, Some, None, FitsSigned, ◌==◌, refl, cond}
+use Rattle.std.specs.Prelude.{◌≡◌, ℕ, ◌<◌, ℤ, ◌+ℤ◌, Bool, true, false, List, [], ◌∷◌, Option, Some, None, IsSome, FitsSigned, ◌==◌, refl, cond}
 use Rattle.std.specs.List.{flat_map}
 use Rattle.std.proofs.Common.{ap, ◌∙◌, sym, subst, inl, inr, arith, eqb}
 use Rattle.std.proofs.lemmas.Bool.{cases_Bool, eqb-true, eqb-false, ne_eqb}
@@ -90,19 +90,27 @@ action_law units count = record {
   fits = λ u values e inside r. performed_fits (units u) (copied (touches_of (units u)) values) e (neutral_fits (class_at (touches_of (units u)) e) (values e) r);
 }
 
--- units that touch and give what others do keep the law as those do
+pub reduced_touched : (c : Option Class) → is_reduced c ≡ true → IsSome c
+reduced_touched None r = cc
+reduced_touched (Some c) r = refl
+
+-- units that touch what others do, and give the same to it, keep the law as those do
 module _ (mine theirs : Behavior) (below : (u : ℕ) → u < mine.count → u < theirs.count)
-    (touch : (u : ℕ) → u < mine.count → mine.touches u ≡ theirs.touches u)
-    (give : (u : ℕ) → u < mine.count → (values : ℕ → ℤ) → mine.given u values ≡ theirs.given u values) where
-  pub law_of_same : FrameLaw theirs → FrameLaw mine
-  law_of_same law = record {
-    once = λ u inside. subst IsOnce (sym (touch u inside)) (law.once u (below u inside));
-    frame = λ u values others inside alike e touched.
-        ap (λ (made : ℕ → ℤ). made e) (give u inside values)
-        ∙ law.frame u values others (below u inside) (subst (λ (touches : List Touch). SeenAlike touches values others) (touch u inside) alike) e
-        (subst (λ (touches : List Touch). IsTouched touches e) (touch u inside) touched)
-        ∙ sym (ap (λ (made : ℕ → ℤ). made e) (give u inside others));
-    fits = λ u values e inside r.
-        subst (FitsSigned w64) (sym (ap (λ (made : ℕ → ℤ). made e) (give u inside values)))
-        (law.fits u values e (below u inside) (subst (λ (touches : List Touch). is_reduced (class_at touches e) ≡ true) (touch u inside) r));
-  }
+    (touch : (u : ℕ) → u < mine.count → mine.touches u ≡ theirs.touches u) where
+  module _ (give : (u : ℕ) (values : ℕ → ℤ) → u < mine.count → (e : ℕ) → IsTouched (mine.touches u) e → mine.given u values e ≡ theirs.given u values e) where
+    pub law_of_alike : FrameLaw theirs → FrameLaw mine
+    law_of_alike law = record {
+      once = λ u inside. subst IsOnce (sym (touch u inside)) (law.once u (below u inside));
+      frame = λ u values others inside alike e touched.
+          give u values inside e touched
+          ∙ law.frame u values others (below u inside) (subst (λ (touches : List Touch). SeenAlike touches values others) (touch u inside) alike) e
+          (subst (λ (touches : List Touch). IsTouched touches e) (touch u inside) touched)
+          ∙ sym (give u others inside e touched);
+      fits = λ u values e inside r.
+          subst (FitsSigned w64) (sym (give u values inside e (reduced_touched (class_at (mine.touches u) e) r)))
+          (law.fits u values e (below u inside) (subst (λ (touches : List Touch). is_reduced (class_at touches e) ≡ true) (touch u inside) r));
+    }
+
+  -- the same, where they give the same everywhere
+  pub law_of_same : ((u : ℕ) → u < mine.count → (values : ℕ → ℤ) → mine.given u values ≡ theirs.given u values) → FrameLaw theirs → FrameLaw mine
+  law_of_same give = law_of_alike (λ u values inside e touched. ap (λ (made : ℕ → ℤ). made e) (give u inside values))

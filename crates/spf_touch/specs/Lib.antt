@@ -8,4 +8,6 @@ pub mod Lists
 pub mod Noted
 pub mod Ops
 pub mod Ordered
+pub mod Renaming
+pub mod RenamingLaw
 pub mod Repeated

@@ -14,6 +14,7 @@ mod laws;
 mod op;
 mod op_units;
 mod perform;
+mod renaming;
 mod touch;
 mod touch_lists;
 mod touches;
@@ -26,6 +27,9 @@ pub use conflicts::conflict;
 pub use laws::{actions_keep_the_frame_law, any_legal_order, work_on_a_copy};
 pub use op::Op;
 pub use op_units::OpUnits;
+pub use renaming::{
+    alike_units_do_the_same, renamed_actions_do_the_same, renamed_units_do_the_same,
+};
 pub use touch::Touch;
 pub use touch_lists::TouchLists;
 pub use touches::Touches;
