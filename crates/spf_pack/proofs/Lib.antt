@@ -3,5 +3,6 @@ mod Listed
 mod OneOrder
 mod Ordered
 mod Packed
+mod PackedCells
 mod Reach
 mod Turned

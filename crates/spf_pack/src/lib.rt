@@ -5,6 +5,9 @@
 //! then the other places by the present packing (`IsFirstTouchPacking`). Upward the crate gives this contract, the law that
 //! the second leaves no choice (`one_tilepacking`), and the units in the order of their places (`units_in_order`).
 //!
+//! `pack_cells` moves the cells of all arrays to where the packings take them, and `unpack` fetches them back. Where an
+//! element goes is `packed_element`, which is a renaming in the sense of spf_touch (`packing_is_renaming`).
+//!
 //! It stands on spf_touch for touch lists, on spf_space for shapes and places, and on spf_perm for orders and packings. A
 //! call looks at each touch once, at a cost that is linear in the listed arrays, and takes some 9 bytes for each place.
 #![tactic(auto)]
@@ -13,8 +16,10 @@ mod in_order;
 mod laws;
 mod listing;
 mod members;
+mod packing;
 mod packs;
 
 pub use in_order::units_in_order;
 pub use laws::one_tilepacking;
+pub use packing::{pack_cells, packing_is_renaming, unpack};
 pub use packs::{cpack, tilepack};
