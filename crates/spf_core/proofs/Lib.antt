@@ -3,6 +3,7 @@ pub mod Feet
 pub mod Induction
 pub mod MarkSteps
 pub mod Marks
+mod RenamedJobs
 pub mod Runs
 pub mod TilesInTurn
 pub mod StateSteps
