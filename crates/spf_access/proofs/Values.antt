@@ -1,17 +1,17 @@
 -- Values, told of their products and factors as lists.
 use Rattle.std.proofs.Common.{◌≡◌, ℕ, ◌+◌, ◌<◌, ◌^◌, ℤ, length, get_or, drop, List, ◌∷◌, ◌++◌, All, refl, sym, ap, ◌∙◌, subst, arith}
 use Rattle.std.proofs.lemmas.List.{drop_more}
-use Rattle.std.proofs.lemmas.List.Elements.{All-cons}
 use Rattle.std.proofs.lemmas.List.Sums.{sum_by-cons}
 use Rattle.std.specs.List.{sum_by}
 use Rattle.spf_term.specs.Environment.{Environment}
 use Rattle.spf_kernel.specs.declared.tree.Prod.{Prod}
 use Rattle.spf_kernel.specs.declared.tree.Value.{Value, Value', out-Value, Row_of-Prod, end_of-Prod, more_of-Prod, items-the_row-Prod, items_shown-the_row-Prod-1, Row_of-Factor, end_of-Factor, more_of-Factor, items-the_row-Factor, items_shown-the_row-Factor-0}
 use Rattle.spf_kernel.specs.declared.tree.Factor.TheBlock.{shown-the_row-Factor-0}
-use Rattle.spf_kernel.specs.Bounded.{AreBoundedFactors, AreBoundedProds, IsBoundedFactor, IsBoundedValue}
 use Rattle.spf_kernel.specs.BodySites.{fact_sites, facts_sites, prod_sites, value_sites}
 use Rattle.spf_store.specs.Event.{Event}
+use Rattle.spf_store.specs.Small.{IsSmallFactor, IsSmallValue, small}
 use Rattle.spf_store.specs.Trace.{fact_trace, facts_trace, one_by_one, prods_trace, value_trace}
+use Rattle.spf_store.proofs.Rows.{KeepsProd, value_kept}
 use Rattle.spf_store.proofs.SiteCounts.{facts_are, value_sites_are}
 use Rattle.spf_access.specs.ValueTrace.{prod_trace}
 
@@ -40,21 +40,6 @@ module _ (env : Environment) (variables : List ℤ) where
   unfolding out-Value denote.Hole.Carrier.out
   value_trace_are site (Value' shape prods) = prods_trace_are site prods ∙ ap (one_by_one prod_sites (prod_trace env variables) site) (sym (items_shown-the_row-Prod-1 shape prods))
 
-bounded_facts : {n : _} (row : Row_of-Factor n) → AreBoundedFactors row → All IsBoundedFactor (items-the_row-Factor n row)
-bounded_facts end_of-Factor h = λ k d inside. absurd (omega arith)
-bounded_facts (more_of-Factor fact others) h = All-cons IsBoundedFactor fact (items-the_row-Factor _ others) h.0 (bounded_facts others h.1)
-
-bounded_prods : {n : _} (row : Row_of-Prod n) → AreBoundedProds row → All (λ (prod : Prod). All IsBoundedFactor prod.facts) (items-the_row-Prod n row)
-bounded_prods end_of-Prod h = λ k d inside. absurd (omega arith)
-bounded_prods (more_of-Prod minus shape facts others) h =
-    All-cons (λ (prod : Prod). All IsBoundedFactor prod.facts) (record { minus = minus; facts = shown-the_row-Factor-0 shape facts }) (items-the_row-Prod _ others)
-    (subst (All IsBoundedFactor) (sym (items_shown-the_row-Factor-0 shape facts)) (bounded_facts facts h.0)) (bounded_prods others h.1)
-
-pub value_bounded : (value : Value) → IsBoundedValue value → All (λ (prod : Prod). All IsBoundedFactor prod.facts) (out-Value value).prods
-unfolding out-Value denote.Hole.Carrier.out
-value_bounded (Value' shape prods) h =
-    subst (All (λ (prod : Prod). All IsBoundedFactor prod.facts)) (sym (items_shown-the_row-Prod-1 shape prods)) (bounded_prods prods h)
-
 -- the same of the list that a loop goes over
 module _ (env : Environment) (variables : List ℤ) (value : Value) (items : List Prod) (same : items ≡ (out-Value value).prods) where
   pub items_trace : (site : ℕ) → one_by_one prod_sites (prod_trace env variables) site items ≡ value_trace env variables site value
@@ -63,5 +48,5 @@ module _ (env : Environment) (variables : List ℤ) (value : Value) (items : Lis
   pub items_sites : sum_by prod_sites items ≡ value_sites value
   items_sites = ap (sum_by prod_sites) same ∙ sym (value_sites_are value)
 
-  pub items_bounded : IsBoundedValue value → All (λ (prod : Prod). All IsBoundedFactor prod.facts) items
-  items_bounded h = subst (All (λ (prod : Prod). All IsBoundedFactor prod.facts)) (sym same) (value_bounded value h)
+  pub items_small : IsSmallValue env variables value → All (λ (prod : Prod). All (IsSmallFactor env variables) prod.facts) items
+  items_small kept = subst (All (KeepsProd (small env variables))) (sym same) (value_kept (small env variables) value kept)

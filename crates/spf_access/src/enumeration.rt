@@ -18,7 +18,7 @@ use crate::walks::Walk;
 use spf_base::NoMemory;
 use spf_kernel::Kernel;
 use spf_space::{LoopShape, Shape, Unit};
-use spf_store::walk_iteration;
+use spf_store::{bounded_items_are_small, walk_iteration};
 use spf_term::Env;
 use spf_touch::{TouchLists, Touches};
 use std::alloc::Global;
@@ -63,6 +63,7 @@ fn walk_unit(
     requires few { length progress.old.closed < 2 ^ 32 - 1 }
     ensures { IsUnitWalked walk.now.env.now walk.now.tree.now unit.now progress.old result progress.new }
 {
+    bounded_items_are_small();
     let each = &walk.tree.loops.as_slice()[unit.loop_no as usize];
     match walk_iteration(walk, progress, &[iteration], each.items.as_slice()) {
         Ok(()) => Ok(progress.close()?),

@@ -1,15 +1,14 @@
 //! The walk through an index expression.
 
 ghost use Rattle.std.specs.Prelude.{◌≡◌, ◌+◌, ◌<◌, ◌^◌, IfOk, length};
-ghost use Rattle.spf_term.specs.Bounded.{AreWithin, IsBounded};
-ghost use Rattle.spf_term.specs.Value.{applications, table_at, value};
+ghost use Rattle.spf_term.specs.Value.{IsSmall, applications, table_at, value};
 ghost use Rattle.spf_term.specs.Walk.{Walks};
 ghost use Rattle.spf_store.specs.Trace.{term_trace};
 ghost use Rattle.spf_access.specs.Progress.{Accepts, Progress, Refuses};
 
 use crate::compare::place_in;
 use crate::stop::Stop;
-use spf_term::{Env, Reader, Term, Walked, bounded_terms_are_small, walk};
+use spf_term::{Env, Reader, Term, Walked, walk};
 
 /// How many entries a table has, and none where it isn't there.
 pub(crate) fn table_length(env: &Env, table: u32) -> usize
@@ -51,14 +50,12 @@ pub(crate) fn walk_term(
     term: &Term,
     site: u32,
 ) -> Result<Walked, Stop>
-    requires within { AreWithin env.now variables.now }
-    requires bounded { IsBounded term.now }
+    requires small { IsSmall env.now variables.now term.now }
     requires numbered { site + applications term.now < 2 ^ 32 }
     ensures walks { (progress : Progress) → Walks (Accepts env.now) (Refuses env.now) progress (term_trace env.now variables.now site term.now) result progress }
     ensures value { IfOk result (λ walked. walked.value ≡ value env.now variables.now term.now) }
     ensures next { IfOk result (λ walked. walked.next ≡ site + applications term.now) }
 {
-    bounded_terms_are_small();
     let mut inside = Inside { env };
     walk(env, variables, term, site, &mut inside)
 }

@@ -2,12 +2,11 @@
 
 ghost use Rattle.std.specs.Prelude.{◌≡◌, ◌+◌, ◌<◌, ◌^◌, [], ◌∷◌, All, IfOk};
 ghost use Rattle.std.specs.List.{sum_by};
-ghost use Rattle.spf_term.specs.Bounded.{AreWithin, IsBounded};
-ghost use Rattle.spf_term.specs.Value.{applications, value};
+ghost use Rattle.spf_term.specs.Value.{IsSmall, applications, value};
 ghost use Rattle.spf_term.specs.Walk.{Walks};
 ghost use Rattle.spf_kernel.specs.BodySites.{assign_sites, fact_sites, prod_sites, value_sites};
-ghost use Rattle.spf_kernel.specs.Bounded.{IsBoundedAssign, IsBoundedFactor, IsBoundedValue};
 ghost use Rattle.spf_store.specs.Event.{Access, Store};
+ghost use Rattle.spf_store.specs.Small.{IsSmallFactor, IsSmallValue};
 ghost use Rattle.spf_store.specs.Trace.{access_trace, fact_trace, index_trace, target_class, value_trace};
 ghost use Rattle.spf_access.specs.Progress.{Accepts, Refuses};
 ghost use Rattle.spf_access.specs.ValueTrace.{prod_trace};
@@ -31,8 +30,7 @@ fn walk_access(
     sub: &Term,
     site: u32,
 ) -> Result<u32, Stop>
-    requires within { AreWithin env.now variables.now }
-    requires bounded { IsBounded sub.now }
+    requires small { IsSmall env.now variables.now sub.now }
     requires numbered { site + (1 + applications sub.now) < 2 ^ 32 }
     ensures walks { Walks (Accepts env.now) (Refuses env.now) progress.old (access_trace env.now variables.now site class array sub.now) result progress.new }
     ensures next { IfOk result (λ next. next ≡ site + (1 + applications sub.now)) }
@@ -44,8 +42,7 @@ fn walk_access(
 
 /// Evaluates a subscript, and then reads the index array there. It makes no difference to the progress.
 fn walk_index(env: &Env, variables: &[i64], array: u32, sub: &Term, site: u32) -> Result<u32, Stop>
-    requires within { AreWithin env.now variables.now }
-    requires bounded { IsBounded sub.now }
+    requires small { IsSmall env.now variables.now sub.now }
     requires numbered { site + (1 + applications sub.now) < 2 ^ 32 }
     ensures walks { (progress : Progress) → Walks (Accepts env.now) (Refuses env.now) progress (index_trace env.now variables.now site array sub.now) result progress }
     ensures next { IfOk result (λ next. next ≡ site + (1 + applications sub.now)) }
@@ -63,8 +60,7 @@ fn walk_fact(
     fact: &Factor,
     site: u32,
 ) -> Result<u32, Stop>
-    requires within { AreWithin env.now variables.now }
-    requires bounded { IsBoundedFactor fact.now }
+    requires small { IsSmallFactor env.now variables.now fact.now }
     requires numbered { site + fact_sites fact.now < 2 ^ 32 }
     ensures walks { Walks (Accepts env.now) (Refuses env.now) progress.old (fact_trace env.now variables.now site fact.now) result progress.new }
     ensures next { IfOk result (λ next. next ≡ site + fact_sites fact.now) }
@@ -87,8 +83,7 @@ fn walk_prod(
     prod: &Prod,
     site: u32,
 ) -> Result<u32, Stop>
-    requires within { AreWithin env.now variables.now }
-    requires bounded { All IsBoundedFactor prod.now.facts }
+    requires small { All (IsSmallFactor env.now variables.now) prod.now.facts }
     requires numbered { site + prod_sites prod.now < 2 ^ 32 }
     ensures walks { Walks (Accepts env.now) (Refuses env.now) progress.old (prod_trace env.now variables.now site prod.now) result progress.new }
     ensures next { IfOk result (λ next. next ≡ site + prod_sites prod.now) }
@@ -109,8 +104,7 @@ fn walk_value(
     value: &Value,
     site: u32,
 ) -> Result<u32, Stop>
-    requires within { AreWithin env.now variables.now }
-    requires bounded { IsBoundedValue value.now }
+    requires small { IsSmallValue env.now variables.now value.now }
     requires numbered { site + value_sites value.now < 2 ^ 32 }
     ensures walks { Walks (Accepts env.now) (Refuses env.now) progress.old (value_trace env.now variables.now site value.now) result progress.new }
     ensures next { IfOk result (λ next. next ≡ site + value_sites value.now) }

@@ -18,7 +18,7 @@ use Rattle.spf_store.specs.Event.{Event, Turn, Bound, Read, Access, Store}
 use Rattle.spf_store.specs.FirstFault.{data_length, outside, unless_between}
 use Rattle.spf_store.specs.Shaped.{data_of, starts_of}
 use Rattle.spf_store.proofs.Adjacent.{end_within}
-use Rattle.spf_source.specs.Needs.{Allows, IsOwn, OwnsAll}
+use Rattle.spf_store.specs.Needs.{Allows, IsOwn, OwnsAll}
 
 lt_true : (a b : ℤ) → int_lt a b ≡ true → a <ℤ b
 lt_true a b h = lt_z_yes (T_from_true (int_lt a b) h)

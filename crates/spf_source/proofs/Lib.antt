@@ -1,10 +1,5 @@
 mod Allowed
 mod Ascending
-mod Assoc
-mod Carried
-mod Rows
 mod Starts
-mod Stored
 mod UnitRows
 mod Way
-mod Wrapped

@@ -23,7 +23,7 @@ use Rattle.spf_store.specs.Source.{items_of, iteration_of, position_iteration, u
 use Rattle.spf_store.specs.Trace.{items_trace}
 use Rattle.spf_store.proofs.Layouts.{laid_out}
 use Rattle.spf_store.proofs.SmallNumbers.{all_at}
-use Rattle.spf_source.specs.Needs.{Allows, OwnsAll}
+use Rattle.spf_store.specs.Needs.{Allows, OwnsAll}
 use Rattle.spf_source.specs.Ready.{OwnsCells, extent_of, loop_units, lower_of}
 use Rattle.spf_source.proofs.Allowed.{accesses_owned, events_allowed}
 

@@ -1,7 +1,7 @@
 -- How far a run has come: what is left makes of the cells what the whole makes of the first ones.
 use Rattle.std.proofs.Common.{◌≡◌, ℕ, ℤ, Bool, refl, ap, sym, ◌∙◌}
 use mathlib.Core.Path.{fun_ext}
-use Rattle.spf_source.specs.Done.{IsDone}
+use Rattle.spf_store.specs.Done.{IsDone}
 
 module _ {C : Type 0} (own : C → ℕ → Bool) (value : C → ℕ → ℤ) (kept : C → C → Type 0) where
   pub record OnTheWay (before now : C) (whole rest : (ℕ → ℤ) → ℕ → ℤ) : Type 0 where

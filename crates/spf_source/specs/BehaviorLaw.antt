@@ -25,9 +25,9 @@ use Rattle.spf_store.specs.Accesses.{touches_in, touches_of}
 use Rattle.spf_store.specs.FirstFault.{walked}
 use Rattle.spf_store.specs.Shaped.{loops_of, starts_of}
 use Rattle.spf_store.specs.Source.{items_of, iteration_of, unit_trace}
-use Rattle.spf_source.specs.ActionEffect.{effect_is_performed}
-use Rattle.spf_source.specs.ActionTrace.{Fits, items_fit}
-use Rattle.spf_source.specs.Actions.{actions_of}
+use Rattle.spf_store.specs.ActionEffect.{effect_is_performed}
+use Rattle.spf_store.specs.ActionTrace.{Fits, items_fit}
+use Rattle.spf_store.specs.Actions.{actions_of}
 use Rattle.spf_source.specs.Behavior.{source_behavior, unit_at}
 
 abbrev none : Unit

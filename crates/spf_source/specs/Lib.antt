@@ -1,10 +1,3 @@
-pub mod ActionEffect
-pub mod ActionTrace
-pub mod Actions
 pub mod Behavior
 pub mod BehaviorLaw
-pub mod Done
-pub mod Needs
-pub mod Products
 pub mod Ready
-pub mod Stays

@@ -7,7 +7,7 @@ ghost use Rattle.spf_store.specs.FirstFault.{AreInRange};
 ghost use Rattle.spf_store.specs.Shaped.{data_of};
 ghost use Rattle.spf_store.specs.Source.{source_result};
 
-use crate::effects::Effects;
+use crate::given::Given;
 use crate::loops::run_steps;
 use spf_kernel::Kernel;
 use spf_space::ArrayShape;
@@ -37,9 +37,9 @@ pub fn run_source(kernel: &Kernel, env: &Env, store: &mut Store, steps: u32)
 {
     let tree = kernel.tree();
     let starts = starts_of(store.arrays.as_slice());
-    let effects = Effects {
+    let given = Given {
         env,
         starts: &starts[..store.arrays.len()],
     };
-    run_steps(&effects, tree, steps, store);
+    run_steps(&given, tree, steps, store);
 }

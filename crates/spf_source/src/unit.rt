@@ -8,9 +8,9 @@ ghost use Rattle.spf_store.specs.FirstFault.{IsInRange};
 ghost use Rattle.spf_store.specs.Accesses.{accesses_of};
 ghost use Rattle.spf_store.specs.Shaped.{IsShapeOf, starts_of};
 ghost use Rattle.spf_store.specs.Source.{unit_effect, unit_trace};
-ghost use Rattle.spf_source.specs.Needs.{OwnsAll};
+ghost use Rattle.spf_store.specs.Needs.{OwnsAll};
 
-use crate::effects::Effects;
+use crate::given::Given;
 use crate::loops::run_at;
 use crate::source::starts_of;
 use spf_kernel::Kernel;
@@ -39,10 +39,10 @@ pub fn run_unit<C: Cells>(kernel: &Kernel, env: &Env, shape: &Shape, unit: &Unit
 {
     let tree = kernel.tree();
     let starts = starts_of(shape.arrays.as_slice());
-    let effects = Effects {
+    let given = Given {
         env,
         starts: &starts[..shape.arrays.len()],
     };
     let lower = lower_at(shape.loops.as_slice(), unit.loop_no);
-    run_at(&effects, tree, unit, lower, cells);
+    run_at(&given, tree, unit, lower, cells);
 }

@@ -1,9 +1,15 @@
 pub mod Adjacent
 pub mod OnTheWay
 pub mod Pieces
+pub mod Rows
 pub mod SiteCounts
+mod Assigned
+mod Assoc
 mod Branches
+mod Carried
 mod Turns
 mod Inners
 pub mod Layouts
+mod SmallItems
 pub mod SmallNumbers
+mod Wrapped

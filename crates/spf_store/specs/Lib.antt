@@ -1,9 +1,17 @@
 pub mod Accepted
 pub mod Accesses
+pub mod ActionEffect
+pub mod ActionTrace
+pub mod Actions
+pub mod Done
 pub mod Effect
 pub mod Event
 pub mod FirstFault
+pub mod Needs
+pub mod Products
 pub mod Shaped
+pub mod Small
 pub mod Source
+pub mod Stays
 pub mod Stored
 pub mod Trace

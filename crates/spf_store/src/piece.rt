@@ -2,7 +2,6 @@
 
 ghost use Rattle.std.specs.Prelude.{◌≡◌, ℕ, ℤ, ◌+◌, ◌<◌, ◌^◌, List, All, IfOk};
 ghost use Rattle.std.specs.List.{sum_by};
-ghost use Rattle.spf_term.specs.Bounded.{AreWithin};
 ghost use Rattle.spf_term.specs.Environment.{Environment};
 ghost use Rattle.spf_term.specs.Walk.{Walks};
 ghost use Rattle.spf_store.specs.Event.{Event};
@@ -18,8 +17,8 @@ pub(crate) trait Piece {
     /// Its events, where it is evaluated with these variables and its first site has this number.
     ghost trace: { Environment → List ℤ → ℕ → Self → List Event };
 
-    /// Its index expressions are small.
-    ghost bounded: { Self → Type 0 };
+    /// Its terms are small, where the variables have these values.
+    ghost small: { Environment → List ℤ → Self → Type 0 };
 
     /// Takes the visitor through the piece. Gives the number of the site behind its last.
     fn walk<S, V: Visitor<S>>(
@@ -29,8 +28,7 @@ pub(crate) trait Piece {
         variables: &[i64],
         site: u32,
     ) -> Result<u32, V::Stop>
-        requires within { AreWithin (V.env visitor.now) variables.now }
-        requires bounded { bounded self.now }
+        requires small { small (V.env visitor.now) variables.now self.now }
         requires numbered { site + sites self.now < 2 ^ 32 }
         requires may { All (V.may visitor.now state.old) (trace (V.env visitor.now) variables.now site self.now) }
         ensures walks { Walks (V.accepts visitor.now) (V.refuses visitor.now) state.old (trace (V.env visitor.now) variables.now site self.now) result state.new }
@@ -45,8 +43,7 @@ pub(crate) fn walk_all<P: Piece, S, V: Visitor<S>>(
     pieces: &[P],
     site: u32,
 ) -> Result<u32, V::Stop>
-    requires within { AreWithin (V.env visitor.now) variables.now }
-    requires bounded { All P.bounded pieces.now }
+    requires small { All (P.small (V.env visitor.now) variables.now) pieces.now }
     requires numbered { site + sum_by P.sites pieces.now < 2 ^ 32 }
     requires may { All (V.may visitor.now state.old) (one_by_one P.sites (P.trace (V.env visitor.now) variables.now) site pieces.now) }
     ensures walks { Walks (V.accepts visitor.now) (V.refuses visitor.now) state.old (one_by_one P.sites (P.trace (V.env visitor.now) variables.now) site pieces.now) result state.new }

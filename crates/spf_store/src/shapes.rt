@@ -9,7 +9,7 @@ ghost use Rattle.spf_store.specs.Shaped.{IsShapeAnswer, array_shapes, data_in, l
 
 use crate::numbers::accepted_numbers_are_small;
 use crate::ranges::extent;
-use crate::values::evaluate;
+use crate::terms::term_value;
 use spf_base::{Name, NoMemory};
 use spf_kernel::Kernel;
 use spf_kernel::tree::{DataDecl, Decl, Loop};
@@ -49,7 +49,7 @@ pub fn outer_value(env: &Env, term: &Term) -> i64
     ensures { result ≡ outer_value env.now term.now }
 {
     bounded_terms_are_small();
-    evaluate(env, &[], term, 0).value
+    term_value(env, &[], term)
 }
 
 /// The same of one that isn't below 0.

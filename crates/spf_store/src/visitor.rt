@@ -1,13 +1,13 @@
 //! What is done on the way through an iteration.
 
 ghost use Rattle.std.specs.Prelude.{◌≡◌, ◌+◌, ◌<◌, ◌^◌, [], ◌∷◌, All, IfOk};
-ghost use Rattle.spf_term.specs.Bounded.{AreWithin, IsBounded, IsWithin};
+ghost use Rattle.spf_term.specs.Bounded.{IsWithin};
 ghost use Rattle.spf_term.specs.Environment.{Environment};
-ghost use Rattle.spf_term.specs.Value.{applications, value};
+ghost use Rattle.spf_term.specs.Value.{IsSmall, applications, value};
 ghost use Rattle.spf_term.specs.Walk.{Walks};
 ghost use Rattle.spf_kernel.specs.BodySites.{assign_sites};
-ghost use Rattle.spf_kernel.specs.Bounded.{IsBoundedAssign};
 ghost use Rattle.spf_store.specs.Event.{Event, Turn, Bound};
+ghost use Rattle.spf_store.specs.Small.{IsSmallAssign};
 ghost use Rattle.spf_store.specs.Trace.{assign_trace, term_trace};
 
 use spf_kernel::tree::Assign;
@@ -42,8 +42,7 @@ pub trait Visitor<S> {
         term: &Term,
         site: u32,
     ) -> Result<Walked, Self::Stop>
-        requires within { AreWithin (env self.now) variables.now }
-        requires bounded { IsBounded term.now }
+        requires small { IsSmall (env self.now) variables.now term.now }
         requires numbered { site + applications term.now < 2 ^ 32 }
         requires may { All (may self.now state.old) (term_trace (env self.now) variables.now site term.now) }
         ensures walks { Walks (accepts self.now) (refuses self.now) state.old (term_trace (env self.now) variables.now site term.now) result state.new }
@@ -64,8 +63,7 @@ pub trait Visitor<S> {
         assign: &Assign,
         site: u32,
     ) -> Result<u32, Self::Stop>
-        requires within { AreWithin (env self.now) variables.now }
-        requires bounded { IsBoundedAssign assign.now }
+        requires small { IsSmallAssign (env self.now) variables.now assign.now }
         requires numbered { site + assign_sites assign.now < 2 ^ 32 }
         requires may { All (may self.now state.old) (assign_trace (env self.now) variables.now site assign.now) }
         ensures walks { Walks (accepts self.now) (refuses self.now) state.old (assign_trace (env self.now) variables.now site assign.now) result state.new }

@@ -3,11 +3,11 @@
 ghost use Rattle.std.specs.Prelude.{◌≡◌, ◌+◌, ◌<◌, ◌≤◌, ◌^◌, pos, ◌+ℤ◌, [], ◌∷◌, All, IfOk};
 ghost use Rattle.std.specs.Int.{int_gap};
 ghost use Rattle.std.specs.List.{sum_by};
-ghost use Rattle.spf_term.specs.Bounded.{AreWithin, IsBounded, IsWithin};
-ghost use Rattle.spf_term.specs.Value.{applications, value};
+ghost use Rattle.spf_term.specs.Bounded.{IsWithin};
+ghost use Rattle.spf_term.specs.Value.{IsSmall, applications, value};
 ghost use Rattle.spf_term.specs.Walk.{Walks};
 ghost use Rattle.spf_kernel.specs.BodySites.{assign_sites, cond_sites, guard_sites, item_sites, part_sites};
-ghost use Rattle.spf_kernel.specs.Bounded.{IsBoundedAssign, IsBoundedCond, IsBoundedGuard, IsBoundedItem, IsBoundedPart};
+ghost use Rattle.spf_store.specs.Small.{AreSmallTurns, IsSmallAssign, IsSmallCond, IsSmallGuard, IsSmallItem, IsSmallPart};
 ghost use Rattle.spf_store.specs.Trace.{assign_trace, bound_trace, branch_trace, compares, cond_trace, holds, inner_trace, integers, item_trace, items_trace, outer_of, part_trace, turn_trace, turns_trace};
 
 use crate::body_sites::{guard_sites, parts_sites};
@@ -23,7 +23,7 @@ impl Piece for Assign {
 
     ghost trace = { assign_trace };
 
-    ghost bounded = { IsBoundedAssign };
+    ghost small = { IsSmallAssign };
 
     fn walk<S, V: Visitor<S>>(
         &self,
@@ -64,8 +64,7 @@ fn walk_cond<S, V: Visitor<S>>(
     cond: &Cond,
     site: u32,
 ) -> Result<Tested, V::Stop>
-    requires within { AreWithin (V.env visitor.now) variables.now }
-    requires bounded { IsBoundedCond cond.now }
+    requires small { IsSmallCond (V.env visitor.now) variables.now cond.now }
     requires numbered { site + cond_sites cond.now < 2 ^ 32 }
     requires may { All (V.may visitor.now state.old) (cond_trace (V.env visitor.now) variables.now site cond.now) }
     ensures walks { Walks (V.accepts visitor.now) (V.refuses visitor.now) state.old (cond_trace (V.env visitor.now) variables.now site cond.now) result state.new }
@@ -88,8 +87,7 @@ fn walk_guard<S, V: Visitor<S>>(
     guard: &Guard,
     site: u32,
 ) -> Result<u32, V::Stop>
-    requires within { AreWithin (V.env visitor.now) variables.now }
-    requires bounded { IsBoundedGuard guard.now }
+    requires small { IsSmallGuard (V.env visitor.now) variables.now guard.now }
     requires numbered { site + guard_sites guard.now < 2 ^ 32 }
     requires may { All (V.may visitor.now state.old) (branch_trace (V.env visitor.now) variables.now site guard.now.conds guard.now.body) }
     ensures walks { Walks (V.accepts visitor.now) (V.refuses visitor.now) state.old (branch_trace (V.env visitor.now) variables.now site guard.now.conds guard.now.body) result state.new }
@@ -111,7 +109,7 @@ impl Piece for Part {
 
     ghost trace = { part_trace };
 
-    ghost bounded = { IsBoundedPart };
+    ghost small = { IsSmallPart };
 
     fn walk<S, V: Visitor<S>>(
         &self,
@@ -135,8 +133,7 @@ fn walk_turn<S, V: Visitor<S>>(
     parts: &[Part],
     site: u32,
 ) -> Result<(), V::Stop>
-    requires within { AreWithin (V.env visitor.now) variables.now }
-    requires bounded { All IsBoundedPart parts.now }
+    requires small { All (IsSmallPart (V.env visitor.now) variables.now) parts.now }
     requires numbered { site + sum_by part_sites parts.now < 2 ^ 32 }
     requires may { All (V.may visitor.now state.old) (turn_trace (V.env visitor.now) variables.now site parts.now) }
     ensures { Walks (V.accepts visitor.now) (V.refuses visitor.now) state.old (turn_trace (V.env visitor.now) variables.now site parts.now) result state.new }
@@ -175,10 +172,9 @@ fn walk_turns<S, V: Visitor<S>>(
     parts: &[Part],
     site: u32,
 ) -> Result<(), V::Stop>
-    requires within { AreWithin (V.env visitor.now) variables.now }
     requires low { IsWithin (2 ^ 22) range.now.start }
     requires high { IsWithin (2 ^ 22) range.now.end }
-    requires bounded { All IsBoundedPart parts.now }
+    requires small { AreSmallTurns (V.env visitor.now) variables.now parts.now }
     requires numbered { site + sum_by part_sites parts.now < 2 ^ 32 }
     requires may { All (V.may visitor.now state.old) (turns_trace (V.env visitor.now) variables.now site parts.now (integers range.now.start range.now.end)) }
     ensures { Walks (V.accepts visitor.now) (V.refuses visitor.now) state.old (turns_trace (V.env visitor.now) variables.now site parts.now (integers range.now.start range.now.end)) result state.new }
@@ -198,8 +194,7 @@ fn walk_bound<S, V: Visitor<S>>(
     bound: &Term,
     site: u32,
 ) -> Result<Walked, V::Stop>
-    requires within { AreWithin (V.env visitor.now) variables.now }
-    requires bounded { IsBounded bound.now }
+    requires small { IsSmall (V.env visitor.now) variables.now bound.now }
     requires numbered { site + (1 + applications bound.now) < 2 ^ 32 }
     requires may { All (V.may visitor.now state.old) (bound_trace (V.env visitor.now) variables.now site bound.now) }
     ensures walks { Walks (V.accepts visitor.now) (V.refuses visitor.now) state.old (bound_trace (V.env visitor.now) variables.now site bound.now) result state.new }
@@ -222,10 +217,9 @@ fn walk_inner<S, V: Visitor<S>>(
     parts: &[Part],
     site: u32,
 ) -> Result<u32, V::Stop>
-    requires within { AreWithin (V.env visitor.now) variables.now }
-    requires low { IsBounded low.now }
-    requires high { IsBounded high.now }
-    requires bounded { All IsBoundedPart parts.now }
+    requires low { IsSmall (V.env visitor.now) variables.now low.now }
+    requires high { IsSmall (V.env visitor.now) variables.now high.now }
+    requires small { AreSmallTurns (V.env visitor.now) variables.now parts.now }
     requires numbered { site + ((1 + applications low.now) + (1 + applications high.now) + sum_by part_sites parts.now) < 2 ^ 32 }
     requires may { All (V.may visitor.now state.old) (inner_trace (V.env visitor.now) variables.now site low.now high.now parts.now) }
     ensures walks { Walks (V.accepts visitor.now) (V.refuses visitor.now) state.old (inner_trace (V.env visitor.now) variables.now site low.now high.now parts.now) result state.new }
@@ -243,7 +237,7 @@ impl Piece for Item {
 
     ghost trace = { item_trace };
 
-    ghost bounded = { IsBoundedItem };
+    ghost small = { IsSmallItem };
 
     fn walk<S, V: Visitor<S>>(
         &self,
@@ -274,8 +268,7 @@ pub fn walk_iteration<S, V: Visitor<S>>(
     iteration: &[i64; 1],
     items: &[Item],
 ) -> Result<(), V::Stop>
-    requires within { AreWithin (V.env visitor.now) iteration.now }
-    requires bounded { All IsBoundedItem items.now }
+    requires small { All (IsSmallItem (V.env visitor.now) iteration.now) items.now }
     requires numbered { 1 + sum_by item_sites items.now < 2 ^ 32 }
     requires may { All (V.may visitor.now state.old) (items_trace (V.env visitor.now) iteration.now 1 items.now) }
     ensures { Walks (V.accepts visitor.now) (V.refuses visitor.now) state.old (items_trace (V.env visitor.now) iteration.now 1 items.now) result state.new }

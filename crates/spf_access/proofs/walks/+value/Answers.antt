@@ -6,12 +6,12 @@ use Rattle.spf_term.specs.Walk.{Through, StopsAt}
 use Rattle.std.specs.List.{sum_by}
 use Rattle.spf_kernel.specs.declared.tree.Prod.{Prod}
 use Rattle.spf_kernel.specs.declared.tree.Value.{the_lemmas}
-use Rattle.spf_kernel.specs.Bounded.{IsBoundedFactor}
 use Rattle.spf_kernel.specs.BodySites.{prod_sites}
 use Rattle.spf_store.specs.Event.{Event}
+use Rattle.spf_store.specs.Small.{IsSmallFactor}
 use Rattle.spf_store.proofs.Pieces.{at_first, at_last, gone_past, stopped_at}
 use Rattle.spf_access.specs.Progress.{Accepts, Refuses}
-use Rattle.spf_access.proofs.Values.{items_bounded, items_sites, items_trace, piece_numbered}
+use Rattle.spf_access.proofs.Values.{items_sites, items_small, items_trace, piece_numbered}
 use Rattle.spf_access.proofs.walks.+value.Goals as goal
 
 pub walk_prod-loop-fact-init : goal.walk_prod-loop-fact-init
@@ -35,16 +35,14 @@ pub walk_value-walk_prod-requires : goal.walk_value-walk_prod-requires
 walk_value-walk_prod-requires t c =
     let items = c.as_slice-prod-items.result.now in
     let count = items_sites c.args.env.now c.args.variables.now c.args.value.now items c.as_slice-prod-items.ensures in
-    let all : All (λ (prod : Prod). All IsBoundedFactor prod.facts) items = items_bounded c.args.env.now c.args.variables.now c.args.value.now items c.as_slice-prod-items.ensures c.requires.bounded in
-    let bounded = subst (λ (prod : Prod). All IsBoundedFactor prod.facts) (sym c.prod-item.is) (all c.loop-prod.prod-index c.prod-item.result c.loop-prod-test.true) in
+    let IsGood = λ (prod : Prod). All (IsSmallFactor c.args.env.now c.args.variables.now) prod.facts in
+    let all = items_small c.args.env.now c.args.variables.now c.args.value.now items c.as_slice-prod-items.ensures c.requires.small in
+    let good = subst IsGood (sym c.prod-item.is) (all c.loop-prod.prod-index c.prod-item.result c.loop-prod-test.true) in
     let low : c.args.site + sum_by prod_sites items < 2 ^ 32 = omega (arith, count, c.requires.numbered) in (
       search (rules, the_lemmas),
       (
-        c.requires.within,
-        (
-          bounded,
-          piece_numbered prod_sites items c.loop-prod.prod-index c.prod-item.result c.args.site c.loop-prod.next c.loop-prod-test.true c.prod-item.is c.loop-prod.invariant.number low,
-        ),
+        good,
+        piece_numbered prod_sites items c.loop-prod.prod-index c.prod-item.result c.args.site c.loop-prod.next c.loop-prod-test.true c.prod-item.is c.loop-prod.invariant.number low,
       ),
     )
 

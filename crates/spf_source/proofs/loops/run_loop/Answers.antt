@@ -10,7 +10,7 @@ use Rattle.spf_source.proofs.loops.run_loop.Goals as goal
 
 pub run_at-requires-clause-range : goal.run_at-requires-clause-range
 run_at-requires-clause-range g c =
-    let env = c.args.effects.now.env.now in
+    let env = c.args.given.now.env.now in
     let low = to_z-of_z w64 c.outer_value-low.result (search rules) ∙ c.outer_value-low.ensures in
     let high = to_z-of_z w64 c.outer_value-high.result (search rules) ∙ c.outer_value-high.ensures in
     let extent : c.extent-position-end.result ≡ (loop_shape env c.loop_at-each.result.now).extent = c.extent-position-end.ensures ∙ (λ i. int_gap (low i) (high i)) in
@@ -18,7 +18,7 @@ run_at-requires-clause-range g c =
 
 pub run_at-requires-clause-own : goal.run_at-requires-clause-own
 run_at-requires-clause-own g c =
-    let env = c.args.effects.now.env.now in
+    let env = c.args.given.now.env.now in
     let tree = c.args.tree.now in
     let low = to_z-of_z w64 c.outer_value-low.result (search rules) ∙ c.outer_value-low.ensures in
     let high = to_z-of_z w64 c.outer_value-high.result (search rules) ∙ c.outer_value-high.ensures in
@@ -28,7 +28,7 @@ run_at-requires-clause-own g c =
 
 pub loop-position-preserved : goal.loop-position-preserved
 loop-position-preserved g c =
-    let env = c.args.effects.now.env.now in
+    let env = c.args.given.now.env.now in
     let tree = c.args.tree.now in
     let low = to_z-of_z w64 c.outer_value-low.result (search rules) ∙ c.outer_value-low.ensures in
     let high = to_z-of_z w64 c.outer_value-high.result (search rules) ∙ c.outer_value-high.ensures in
@@ -40,7 +40,7 @@ loop-position-preserved g c =
 
 pub returns : goal.returns
 returns g c =
-    let env = c.args.effects.now.env.now in
+    let env = c.args.given.now.env.now in
     let tree = c.args.tree.now in
     let low = to_z-of_z w64 c.outer_value-low.result (search rules) ∙ c.outer_value-low.ensures in
     let high = to_z-of_z w64 c.outer_value-high.result (search rules) ∙ c.outer_value-high.ensures in

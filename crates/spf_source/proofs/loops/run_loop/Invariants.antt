@@ -7,5 +7,5 @@ use Rattle.spf_source.proofs.loops.run_loop.Given as goal
 
 abbrev pub invariant-loop-position : goal.invariant-loop-position
 invariant-loop-position g l =
-    OnTheWay g.C.Cells.own g.C.Cells.value g.C.Cells.kept l.fn.cells l.cells (units_effect l.effects.env.now l.tree (loop_units l.effects.env.now l.tree l.loop_no))
-    (positions_left l.effects.env.now l.tree l.loop_no (extent_of l.effects.env.now l.tree (slice_get l.tree.loops l.loop_no)) l.position)
+    OnTheWay g.C.Cells.own g.C.Cells.value g.C.Cells.kept l.fn.cells l.cells (units_effect l.given.env.now l.tree (loop_units l.given.env.now l.tree l.loop_no))
+    (positions_left l.given.env.now l.tree l.loop_no (extent_of l.given.env.now l.tree (slice_get l.tree.loops l.loop_no)) l.position)

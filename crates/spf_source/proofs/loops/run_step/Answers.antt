@@ -7,7 +7,7 @@ use Rattle.spf_source.proofs.loops.run_step.Goals as goal
 
 pub loop-loop_no-preserved : goal.loop-loop_no-preserved
 loop-loop_no-preserved g c =
-    let env = c.args.effects.now.env.now in
+    let env = c.args.given.now.env.now in
     let tree = c.args.tree.now in
     went_on g.C.Cells.own g.C.Cells.value g.C.Cells.kept g.met.C.Cells.kept_on c.args.cells.now c.loop-loop_no.cells c.run_loop.new.cells _ _
     (units_effect env tree (loop_units env tree c.loop-loop_no.loop_no)) (loops_left env tree (c.loop-loop_no.loop_no + 1))
@@ -16,4 +16,4 @@ loop-loop_no-preserved g c =
 pub returns : goal.returns
 returns g c =
     arrived g.C.Cells.own g.C.Cells.value g.C.Cells.kept c.args.cells.now c.loop-loop_no.cells _ _
-    (last_loop c.args.effects.now.env.now c.args.tree.now c.loop-loop_no.loop_no (omega (arith, c.loop-loop_no-test.false, c.len-loop_no-end.ensures))) c.loop-loop_no.invariant
+    (last_loop c.args.given.now.env.now c.args.tree.now c.loop-loop_no.loop_no (omega (arith, c.loop-loop_no-test.false, c.len-loop_no-end.ensures))) c.loop-loop_no.invariant

@@ -8,7 +8,7 @@ use Rattle.spf_source.proofs.loops.run_steps.Goals as goal
 
 pub loop-step-init : goal.loop-step-init
 loop-step-init g c =
-    let env = c.args.effects.now.env.now in
+    let env = c.args.given.now.env.now in
     let tree = c.args.tree.now in
     let whole = units_effect env tree (units_of c.args.steps (loops_of env tree)) in
     subst (λ (rest : (ℕ → ℤ) → ℕ → ℤ). OnTheWay g.C.Cells.own g.C.Cells.value g.C.Cells.kept c.args.cells.now c.args.cells.now whole rest) (sym (first_step env tree c.args.steps))
@@ -16,7 +16,7 @@ loop-step-init g c =
 
 pub loop-step-preserved : goal.loop-step-preserved
 loop-step-preserved g c =
-    let env = c.args.effects.now.env.now in
+    let env = c.args.given.now.env.now in
     let tree = c.args.tree.now in
     went_on g.C.Cells.own g.C.Cells.value g.C.Cells.kept g.met.C.Cells.kept_on c.args.cells.now c.loop-step.cells c.run_step.new.cells _ _
     (units_effect env tree (loops_units 0 0 (loops_of env tree))) (steps_left env tree c.args.steps (c.loop-step._step + 1))
@@ -25,4 +25,4 @@ loop-step-preserved g c =
 pub returns : goal.returns
 returns g c =
     arrived g.C.Cells.own g.C.Cells.value g.C.Cells.kept c.args.cells.now c.loop-step.cells _ _
-    (last_step c.args.effects.now.env.now c.args.tree.now c.args.steps c.loop-step._step c.loop-step-test.false) c.loop-step.invariant
+    (last_step c.args.given.now.env.now c.args.tree.now c.args.steps c.loop-step._step c.loop-step-test.false) c.loop-step.invariant

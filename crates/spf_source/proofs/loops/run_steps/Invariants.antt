@@ -7,5 +7,5 @@ use Rattle.spf_source.proofs.loops.run_steps.Given as goal
 
 abbrev pub invariant-loop-step : goal.invariant-loop-step
 invariant-loop-step g l =
-    OnTheWay g.C.Cells.own g.C.Cells.value g.C.Cells.kept l.fn.cells l.cells (units_effect l.effects.env.now l.tree (units_of l.steps (loops_of l.effects.env.now l.tree)))
-    (steps_left l.effects.env.now l.tree l.steps l._step)
+    OnTheWay g.C.Cells.own g.C.Cells.value g.C.Cells.kept l.fn.cells l.cells (units_effect l.given.env.now l.tree (units_of l.steps (loops_of l.given.env.now l.tree)))
+    (steps_left l.given.env.now l.tree l.steps l._step)

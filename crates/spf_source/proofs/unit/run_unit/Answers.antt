@@ -7,7 +7,7 @@ use Rattle.spf_space.specs.declared.shape.LoopShape.{LoopShape}
 use Rattle.spf_store.specs.Accesses.{accesses_of}
 use Rattle.spf_store.specs.Shaped.{starts_of}
 use Rattle.spf_store.specs.Source.{unit_trace}
-use Rattle.spf_source.specs.Needs.{OwnsAll}
+use Rattle.spf_store.specs.Needs.{OwnsAll}
 use Rattle.spf_source.specs.Ready.{IsReady, extent_of, lower_of}
 use Rattle.spf_source.proofs.Starts.{few_arrays, table_is}
 use Rattle.spf_source.proofs.UnitRows.{of_shape, slice_get-map}

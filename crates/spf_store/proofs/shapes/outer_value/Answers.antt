@@ -1,7 +1,5 @@
-use Rattle.std.proofs.Common.{[], arith}
+use Rattle.std.proofs.Common.{[]}
 use Rattle.spf_store.proofs.shapes.outer_value.Goals as goal
 
-pub evaluate-requires-clause-numbered : goal.evaluate-requires-clause-numbered
-evaluate-requires-clause-numbered c =
-    let small = c.bounded_terms_are_small.ensures c.args.env.now [] c.args.term.now c.requires.within c.requires.bounded in
-    omega (arith, small.few)
+pub term_value-requires : goal.term_value-requires
+term_value-requires c = c.bounded_terms_are_small.ensures c.args.env.now [] c.args.term.now c.requires.within c.requires.bounded

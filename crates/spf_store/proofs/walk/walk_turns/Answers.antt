@@ -1,16 +1,24 @@
-use Rattle.std.proofs.Common.{ℤ, List, arith, subst, sym}
+use Rattle.std.proofs.Common.{ℤ, pos, ◌+ℤ◌, List, arith, subst, sym}
 use Rattle.std.specs.List.{All}
 use Rattle.std.proofs.lemmas.Result.{err_from_is_err_and}
 use Rattle.spf_term.proofs.WalkParts.{stopped_walk}
 use Rattle.spf_term.specs.Walk.{Through}
 use Rattle.spf_store.specs.Trace.{turn_trace}
-use Rattle.spf_store.proofs.Turns.{all_turned, at_first, may_turn, turned, turn_stopped}
+use Rattle.spf_store.specs.Small.{IsSmallPart}
+use Rattle.spf_store.proofs.Turns.{all_turned, at_first, between_within, may_turn, turned, turn_stopped}
 use Rattle.spf_store.proofs.walk.walk_turns.Goals as goal
 
 pub loop-turn-init : goal.loop-turn-init
 loop-turn-init g c =
     at_first (g.V.Visitor.accepts c.args.visitor.now) (g.V.Visitor.may c.args.visitor.now) (g.V.Visitor.env c.args.visitor.now) c.args.state.now c.args.variables.now
     c.args.site c.args.parts.now c.args.range.now.start c.args.range.now.end c.requires.may
+
+pub walk_turn-requires-clause-small : goal.walk_turn-requires-clause-small
+walk_turn-requires-clause-small g c =
+    let inside = rw c.extent-turn-end.ensures at c.loop-turn-test.true in
+    let low = c.args.range.now.start in
+    let small = c.requires.small (low +ℤ pos c.loop-turn.turn) (between_within low c.args.range.now.end c.loop-turn.turn c.requires.low c.requires.high inside) in
+    subst (λ (both : List ℤ). All (IsSmallPart (g.V.Visitor.env c.args.visitor.now) both) c.args.parts.now) (sym c.turn_variables-both.ensures) small
 
 pub walk_turn-requires-clause-may : goal.walk_turn-requires-clause-may
 walk_turn-requires-clause-may g c =
