@@ -7,7 +7,7 @@ ghost use Rattle.spf_term.specs.Walk.{Walks};
 ghost use Rattle.spf_kernel.specs.BodySites.{assign_sites, fact_sites, prod_sites, value_sites};
 ghost use Rattle.spf_store.specs.Event.{Access, Store};
 ghost use Rattle.spf_store.specs.Small.{IsSmallFactor, IsSmallValue};
-ghost use Rattle.spf_store.specs.Trace.{access_trace, fact_trace, index_trace, target_class, value_trace};
+ghost use Rattle.spf_store.specs.Trace.{access_trace, fact_trace, index_trace, value_trace};
 ghost use Rattle.spf_access.specs.Progress.{Accepts, Refuses};
 ghost use Rattle.spf_access.specs.ValueTrace.{prod_trace};
 
@@ -15,8 +15,8 @@ use crate::compare::{bound, place_in};
 use crate::progress::Progress;
 use crate::stop::Stop;
 use crate::terms::{table_length, walk_term};
-use spf_kernel::tree::{Assign, Becomes, Factor, Prod, Tree, Value};
-use spf_store::Visitor;
+use spf_kernel::tree::{Assign, Factor, Prod, Tree, Value};
+use spf_store::{Visitor, target_class};
 use spf_term::{Env, Term, Walked, applications};
 use spf_touch::Class;
 
@@ -116,16 +116,6 @@ fn walk_value(
     Ok(next)
 }
 
-/// The class of an assignment's target.
-fn class_of(sign: Becomes) -> Class
-    ensures { result ≡ target_class sign }
-{
-    match sign {
-        Becomes::Put => Class::Write,
-        Becomes::Add => Class::Add,
-    }
-}
-
 /// Who goes through the iterations of a kernel for their touch lists.
 #[derive(Drop)]
 pub(crate) struct Walk<'a> {
@@ -174,7 +164,7 @@ impl<'a, 'b> Visitor<Progress<'b>> for Walk<'a> {
     ) -> Result<u32, Stop> {
         let first = site + (1 + applications(&assign.sub));
         let next = walk_value(self.env, progress, variables, &assign.value, first)?;
-        let class = class_of(assign.sign);
+        let class = target_class(assign.sign);
         walk_access(
             self.env,
             progress,

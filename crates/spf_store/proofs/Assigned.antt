@@ -1,16 +1,10 @@
 -- Cells after a number was set.
-use Rattle.std.proofs.Common.{◌≡◌, ℕ, ℤ, ◌+ℤ◌, Bool, List, ap, sym, ◌∙◌, cond, eqb, inl, inr, w64, refl}
+use Rattle.std.proofs.Common.{◌≡◌, ℕ, ℤ, Bool, List, ap, sym, ◌∙◌, cond, eqb, inl, inr, refl}
 use Rattle.std.proofs.lemmas.Bool.{cases_Bool, eqb-true}
-use Rattle.std.proofs.lemmas.Int.{int_wrap-add_right}
-use Rattle.spf_base.specs.Wrap.{wrap}
 use Rattle.spf_term.specs.Environment.{Environment}
 use Rattle.spf_kernel.specs.declared.tree.Assign.{Assign}
 use Rattle.spf_store.specs.Effect.{assigned, element, stored, value}
 use Rattle.spf_store.specs.Done.{IsDone}
-
-pub sum_wraps : (old new : ℤ) → wrap (old +ℤ wrap new) ≡ wrap (old +ℤ new)
-unfolding wrap
-sum_wraps old new = int_wrap-add_right w64 old new
 
 module _ (env : Environment) (starts : List ℕ) (assign : Assign) (variables : List ℤ) (values : ℕ → ℤ) where
   abbrev target : ℕ

@@ -1,20 +1,14 @@
 -- Performing the actions of events is their effect.
 use Rattle.std.proofs.Common.{◌≡◌, ℕ, ◌==◌, ℤ, ◌+ℤ◌, ◌*ℤ◌, List, [], ◌∷◌, cond, refl, ap, sym, ◌∙◌}
 use mathlib.Core.Path.{fun_ext}
-use Rattle.spf_base.specs.Wrap.{wrap}
 use Rattle.spf_term.specs.Environment.{Environment}
 use Rattle.spf_touch.specs.Actions.{change, performed}
-use Rattle.spf_touch.specs.Blend.{blend}
-use Rattle.spf_touch.proofs.Blends.{wrap_inner}
 use Rattle.spf_kernel.specs.declared.tree.Value.{Value, Value', Row_of-Prod, end_of-Prod, more_of-Prod, Row_of-Factor, end_of-Factor, more_of-Factor}
 use Rattle.spf_kernel.specs.declared.tree.Factor.{Factor}
 use Rattle.spf_kernel.specs.declared.tree.Factor.TheVariants as factor_is
 use Rattle.spf_kernel.specs.declared.tree.Assign.{Assign}
-use Rattle.spf_kernel.specs.declared.tree.Becomes.{Becomes}
-use Rattle.spf_kernel.specs.declared.tree.Becomes.TheVariants.{Put, Add}
 use Rattle.spf_store.specs.Effect.{assigned, effect, element, fact_value, facts_value, prods_value, signed, stored, value}
 use Rattle.spf_store.specs.Event.{Event, Turn, Bound, Read, Access, Store}
-use Rattle.spf_store.specs.Trace.{target_class}
 use Rattle.spf_store.specs.Actions.{actions_of, assign_action, fact_made, facts_made, prods_made, value_made}
 
 module _ (env : Environment) (starts : List ℕ) where
@@ -45,15 +39,9 @@ module _ (env : Environment) (starts : List ℕ) where
       fact_is (factor_is.Index array sub) = refl
       fact_is (factor_is.Cell array sub) = refl
 
-    -- what an assignment stores is what its class blends
-    stored_is : (sign : Becomes) (old made whole : ℤ) → made ≡ whole → stored sign old whole ≡ blend (target_class sign) old (wrap made)
-    stored_is Put old made whole same = ap wrap (sym same)
-    stored_is Add old made whole same = ap (λ (z : ℤ). wrap (old +ℤ z)) (sym same) ∙ sym (wrap_inner old made)
-
     assigned_is : (assign : Assign) (e : ℕ) → assigned env starts assign variables cells e ≡ change (assign_action env starts variables assign) cells e
     assigned_is assign e =
-        ap (λ (z : ℤ). cond (e == element env starts variables assign.array assign.sub) z (cells e))
-        (stored_is assign.sign (cells e) ((value_made env starts variables assign.value).value cells) (value env starts variables cells assign.value) (value_is assign.value))
+        ap (λ (z : ℤ). cond (e == element env starts variables assign.array assign.sub) (stored assign.sign (cells e) z) (cells e)) (sym (value_is assign.value))
 
   pub effect_is_performed : (events : List Event) (cells : ℕ → ℤ) → effect env starts events cells ≡ performed (actions_of env starts events) cells
   effect_is_performed [] cells = refl

@@ -4,13 +4,14 @@ use Rattle.spf_base.specs.Wrap.{wrap}
 use Rattle.spf_term.specs.Environment.{Environment}
 use Rattle.spf_term.specs.Value as term
 use Rattle.spf_term.specs.declared.term.Term.{Term}
+use Rattle.spf_touch.specs.Blend.{blend}
 use Rattle.spf_kernel.specs.declared.tree.Value.{Value, Value', Row_of-Prod, end_of-Prod, more_of-Prod, Row_of-Factor, end_of-Factor, more_of-Factor}
 use Rattle.spf_kernel.specs.declared.tree.Factor.{Factor}
 use Rattle.spf_kernel.specs.declared.tree.Factor.TheVariants as factor_is
 use Rattle.spf_kernel.specs.declared.tree.Assign.{Assign}
 use Rattle.spf_kernel.specs.declared.tree.Becomes.{Becomes}
-use Rattle.spf_kernel.specs.declared.tree.Becomes.TheVariants.{Put, Add}
 use Rattle.spf_store.specs.Event.{Event, Store}
+use Rattle.spf_store.specs.Trace.{target_class}
 
 -- the element at a place of the array whose first element this is; a place below 0 counts as 0
 abbrev pub element_at : ℕ → ℤ → ℕ
@@ -20,10 +21,10 @@ element_at start (negsuc place) = start
 abbrev pub signed : Bool → ℤ → ℤ
 signed minus z = if minus then neg_ℤ z else z
 
--- what an assignment makes of the old value of its target: `=` stores the value, `+=` the sum of both, wrapped to 64 bits
+-- what an assignment makes of the old value of its target, into which the value, wrapped to 64 bits, is blended as the class of
+-- its sign has it: `=` stores the value, `+=` the sum of both, which wraps
 abbrev pub stored : Becomes → ℤ → ℤ → ℤ
-stored Put old value = wrap value
-stored Add old value = wrap (old +ℤ value)
+stored sign old value = blend (target_class sign) old (wrap value)
 
 module _ (env : Environment) (starts : List ℕ) where
   -- the element of a data array at a subscript

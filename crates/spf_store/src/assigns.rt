@@ -5,14 +5,24 @@ ghost use Rattle.spf_term.specs.Value.{IsSmall, value};
 ghost use Rattle.spf_store.specs.Done.{IsDone};
 ghost use Rattle.spf_store.specs.Effect.{assigned};
 ghost use Rattle.spf_store.specs.Needs.{IsOwn, IsReadable};
+ghost use Rattle.spf_store.specs.Trace.{target_class};
 
 use crate::values::{element, value_of};
-use spf_base::wadd;
 use spf_kernel::tree::{Assign, Becomes};
 use spf_term::Env;
-use spf_touch::Cells;
+use spf_touch::{Cells, Class};
 
-/// Evaluates the value of an assignment, and then its target, and stores.
+/// The class of the target of an assignment with this sign.
+pub fn target_class(sign: Becomes) -> Class
+    ensures { result ≡ target_class sign }
+{
+    match sign {
+        Becomes::Put => Class::Write,
+        Becomes::Add => Class::Add,
+    }
+}
+
+/// Evaluates the value of an assignment, and then its target, and blends the value in as the class of the sign has it.
 pub(crate) fn carry_out<C: Cells>(
     env: &Env,
     starts: &[u32],
@@ -27,11 +37,7 @@ pub(crate) fn carry_out<C: Cells>(
 {
     let value = value_of(env, starts, variables, cells, &assign.value);
     let target = element(env, starts, variables, assign.array, &assign.sub);
-    match assign.sign {
-        Becomes::Put => cells.set(target, value),
-        Becomes::Add => {
-            let sum = wadd(cells.get(target), value);
-            cells.set(target, sum);
-        }
-    }
+    let class = target_class(assign.sign);
+    let old = cells.get(target);
+    cells.set(target, class.blend(old, value));
 }

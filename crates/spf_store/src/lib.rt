@@ -32,6 +32,7 @@ mod values;
 mod visitor;
 mod walk;
 
+pub use assigns::target_class;
 pub use body_sites::assign_sites;
 pub use effects::run_iteration;
 pub use laws::iterations_are_actions;
