@@ -8,8 +8,10 @@ pub mod Kept
 pub mod Laws
 pub mod Listed
 pub mod Meanings
+pub mod Monotone
 pub mod Moved
 pub mod Pairs
+pub mod Readiness
 pub mod Renumbered
 pub mod Rounds
 pub mod Settled
@@ -17,4 +19,5 @@ pub mod Simplifying
 pub mod Sorting
 pub mod Swapped
 pub mod Together
+pub mod Unique
 pub mod United

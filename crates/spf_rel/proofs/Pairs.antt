@@ -5,7 +5,7 @@ use Rattle.std.proofs.lemmas.List.{drop_at, take_at}
 use Rattle.std.proofs.lemmas.List.Elements.{All-cons, All-contains, All-drop, All-nil, All-take, Contains-append_cases, Contains-append_left, Contains-append_right, Contains-get_or}
 
 module _ {X : Type 0} where
-  none : {A : Type 0} (x : X) → Contains [] x → A
+  pub none : {A : Type 0} (x : X) → Contains [] x → A
   none x at = absurd (omega (arith, at.1))
 
   pub there_first : (x : X) (xs : List X) → Contains (x ∷ xs) x

@@ -21,7 +21,7 @@ use Rattle.spf_rel.proofs.Settled.{IsLeast, IsZero, compacted_kept, settled_kept
 -- ---- order
 
 module _ (P : Term → Type 0) (terms made : List Term) (ordered : IsOrdered terms made) where
-  all_ordered : All P terms → All P made
+  pub all_ordered : All P terms → All P made
   all_ordered h = λ k d inside. All-contains P terms (get_or made k d) h ((ordered.alike (get_or made k d)).1 (Contains-get_or made k d inside))
 
   ordered_all : All P made → All P terms

@@ -8,6 +8,7 @@ use Rattle.spf_term.specs.declared.solutions.Solution.{Solution}
 use Rattle.spf_term.specs.declared.term.Term.{Term}
 use Rattle.spf_rel.specs.Simplified.{Choice, choice}
 use Rattle.spf_rel.specs.declared.elimination.Chosen.{Chosen}
+use Rattle.spf_rel.specs.declared.relation.Conj.{Conj}
 
 -- a term that is normal and keeps the number rule
 abbrev pub IsReadyTerm : Term → Type 0
@@ -15,6 +16,10 @@ IsReadyTerm term = IsNormal term × (excess term ≡ None)
 
 abbrev pub AreReady : List Term → Type 0
 AreReady terms = All IsReadyTerm terms
+
+pub record IsReadyConj (conj : Conj) : Type 0 where
+  pub equal : AreReady conj.equal
+  pub least : AreReady conj.least
 
 abbrev pub put : Solution → Term → Term
 put found term = normal (substituted found.var found.by term)

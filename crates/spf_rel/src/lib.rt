@@ -37,5 +37,7 @@ pub use inverses::inverse;
 pub use products::{apply, compose, intersect, intersect_sets, restrict_domain};
 pub use relation::{Conj, Rel, Set};
 pub use simplification::{simplify, simplify_set};
-pub use simplifying_laws::simplification_keeps_the_meaning;
+pub use simplifying_laws::{
+    simplification_is_unique, simplification_keeps_the_meaning, simplified_terms_are_ready,
+};
 pub use unions::{union, union_sets};
