@@ -43,6 +43,12 @@ map_twice : (f g : Term → Term) (terms : List Term) → map f (map g terms) �
 map_twice f g [] = refl
 map_twice f g (term ∷ terms) = ap (λ more. f (g term) ∷ more) (map_twice f g terms)
 
+-- those before a place and behind it
+pub both_mapped : (f : Term → Term) (terms : List Term) (place : ℕ) → map f (take place terms) ++ map f (take (length terms - (place + 1)) (drop (place + 1) terms)) ≡ map f (take place terms ++ drop (place + 1) terms)
+both_mapped f terms place =
+    ap (λ rest. map f (take place terms) ++ map f rest) (take_all (length terms - (place + 1)) (drop (place + 1) terms) (omega (arith, length-drop (place + 1) terms)))
+    ∙ sym (map-append f (take place terms) (drop (place + 1) terms))
+
 module _ (conj : Conj) (chosen : Chosen) (terms : List Term) (are : terms ≡ conj.equal) where
   abbrev place : ℕ
   place = chosen.place
@@ -50,8 +56,7 @@ module _ (conj : Conj) (chosen : Chosen) (terms : List Term) (are : terms ≡ co
   others_are : map (put_oriented chosen.found) (take place terms) ++ map (put_oriented chosen.found) (take (length terms - (place + 1)) (drop (place + 1) terms))
       ≡ (eliminated conj (choice_of conj.equal chosen)).equal
   others_are =
-      ap (λ rest. map (put_oriented chosen.found) (take place terms) ++ map (put_oriented chosen.found) rest) (take_all (length terms - (place + 1)) (drop (place + 1) terms) (omega (arith, length-drop (place + 1) terms)))
-      ∙ sym (map-append (put_oriented chosen.found) (take place terms) (drop (place + 1) terms))
+      both_mapped (put_oriented chosen.found) terms place
       ∙ ap (λ all. map (put_oriented chosen.found) (take place all ++ drop (place + 1) all)) are
       ∙ sym (map_twice (λ (term : Term). oriented (normal term)) (substituted chosen.found.var chosen.found.by) (take place conj.equal ++ drop (place + 1) conj.equal))
 

@@ -1,4 +1,5 @@
 pub mod Elimination
+pub mod Function
 pub mod Join
 pub mod Meaning
 pub mod Operations

@@ -43,7 +43,7 @@ pub(crate) fn choose(
 }
 
 /// Adds the terms with the solution in place of its variable, each normal and beginning with a positive coefficient.
-fn push_put(
+fn push_oriented(
     alloc: Global,
     found: &Solution,
     terms: &[Term],
@@ -60,8 +60,8 @@ fn push_put(
     Ok(())
 }
 
-/// The terms of both, as `push_put` adds them.
-fn both_put(
+/// The terms of both, as `push_oriented` adds them.
+fn both_oriented(
     alloc: Global,
     found: &Solution,
     before: &[Term],
@@ -73,21 +73,40 @@ fn both_put(
     ensures { IfOk result (λ made. map plain made ≡ map (put_oriented found.now) before.now ++ map (put_oriented found.now) after.now) }
 {
     let mut made = Items::new(alloc);
-    push_put(alloc, found, before, &mut made)?;
-    push_put(alloc, found, after, &mut made)?;
+    push_oriented(alloc, found, before, &mut made)?;
+    push_oriented(alloc, found, after, &mut made)?;
     Ok(made)
 }
 
+/// Adds the terms with the solution in place of its variable, each normal.
+pub(crate) fn push_put(
+    alloc: Global,
+    found: &Solution,
+    terms: &[Term],
+    made: &mut Items<WideTerm>,
+) -> Result<(), NoMemory>
+    requires ready { AreReady terms.now }
+    requires found { IsReady found.now }
+    ensures { OnOk result (map plain made.new ≡ map plain made.old ++ map (put found.now) terms.now) }
+{
+    for term in terms {
+        made.push(substituted_wide(alloc, term, found.var, &found.by)?)?;
+    }
+    Ok(())
+}
+
 /// The terms with the solution in place of its variable, each normal.
-fn all_put(alloc: Global, found: &Solution, terms: &[Term]) -> Result<Items<WideTerm>, NoMemory>
+pub(crate) fn all_put(
+    alloc: Global,
+    found: &Solution,
+    terms: &[Term],
+) -> Result<Items<WideTerm>, NoMemory>
     requires ready { AreReady terms.now }
     requires found { IsReady found.now }
     ensures { IfOk result (λ made. map plain made ≡ map (put found.now) terms.now) }
 {
     let mut made = Items::new(alloc);
-    for term in terms {
-        made.push(substituted_wide(alloc, term, found.var, &found.by)?)?;
-    }
+    push_put(alloc, found, terms, &mut made)?;
     Ok(made)
 }
 
@@ -104,7 +123,7 @@ pub(crate) fn eliminate(alloc: Global, conj: &Conj, chosen: &Chosen) -> Result<C
     let terms = conj.equal.as_slice();
     let before = &terms[..chosen.place];
     let after = &terms[chosen.place + 1..];
-    let equal = both_put(alloc, &chosen.found, before, after)?;
+    let equal = both_oriented(alloc, &chosen.found, before, after)?;
     let least = all_put(alloc, &chosen.found, conj.least.as_slice())?;
     tested_together(alloc, conj.inner, equal.as_slice(), least.as_slice())
 }

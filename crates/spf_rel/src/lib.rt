@@ -18,10 +18,14 @@
 
 mod compaction;
 mod elimination;
+mod functions;
+mod inputs;
 mod inverses;
 mod join;
 mod normal_terms;
 mod ordering;
+mod outputs;
+mod partly;
 mod products;
 mod relation;
 mod renumber;
@@ -33,6 +37,7 @@ mod solving;
 mod tidying;
 mod unions;
 
+pub use functions::as_function;
 pub use inverses::inverse;
 pub use products::{apply, compose, intersect, intersect_sets, restrict_domain};
 pub use relation::{Conj, Rel, Set};

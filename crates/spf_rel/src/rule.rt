@@ -15,7 +15,7 @@ use sqlite_items::Items;
 use std::alloc::Global;
 
 /// The greatest number of monomials, nested ones counted.
-const MOST_MONOMIALS: u64 = 16_384;
+pub(crate) const MOST_MONOMIALS: u64 = 16_384;
 
 /// How many monomials the terms have together, nested ones counted, up to the greatest `u64`. Linear in the terms.
 fn all_monomials(terms: &[Term]) -> u64
@@ -61,7 +61,7 @@ pub(crate) fn conj_excess(conj: &Conj) -> Option<i128>
 }
 
 /// As `all_monomials`.
-fn all_wide_monomials(terms: &[WideTerm]) -> u64
+pub(crate) fn all_wide_monomials(terms: &[WideTerm]) -> u64
     ensures { result ≡ min (sum_by (λ term. monomials (plain term)) terms.now) (2 ^ 64 - 1) }
 {
     let mut count: u64 = 0;
@@ -72,7 +72,7 @@ fn all_wide_monomials(terms: &[WideTerm]) -> u64
 }
 
 /// The terms of these numbers, or the first of them that is farther from 0 than 2^62. Linear in the terms.
-fn all_narrowed(alloc: Global, terms: &[WideTerm]) -> Result<Items<Term>, TermFault>
+pub(crate) fn all_narrowed(alloc: Global, terms: &[WideTerm]) -> Result<Items<Term>, TermFault>
     ensures { IsNarrowed (flat_map (λ term. numbers (plain term)) terms.now) (map plain terms.now) result }
 {
     let mut made = Items::new(alloc);

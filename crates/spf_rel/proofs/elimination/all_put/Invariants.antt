@@ -1,7 +1,0 @@
-use Rattle.std.proofs.Common.{◌≡◌, map, take}
-use Rattle.spf_term.specs.Wide.{plain}
-use Rattle.spf_rel.specs.Elimination.{put}
-use Rattle.spf_rel.proofs.elimination.all_put.Given as goal
-
-abbrev pub invariant-loop-term : goal.invariant-loop-term
-invariant-loop-term l = map plain l.made ≡ map (put l.found) (take l.term-index l.terms)
