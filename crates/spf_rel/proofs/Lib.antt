@@ -4,6 +4,7 @@ pub mod Combined
 pub mod Compacting
 pub mod Constants
 pub mod Eliminated
+pub mod Evaluated
 pub mod Found
 pub mod Giving
 pub mod Joined
@@ -16,6 +17,7 @@ pub mod Monotone
 pub mod Moved
 pub mod Narrowed
 pub mod Pairs
+pub mod Points
 pub mod Readiness
 pub mod Renumbered
 pub mod Rounds

@@ -18,10 +18,12 @@
 
 mod compaction;
 mod elimination;
+mod evaluation;
 mod functions;
 mod inputs;
 mod inverses;
 mod join;
+mod membership;
 mod normal_terms;
 mod ordering;
 mod outputs;
@@ -39,6 +41,7 @@ mod unions;
 
 pub use functions::as_function;
 pub use inverses::inverse;
+pub use membership::contains;
 pub use products::{apply, compose, intersect, intersect_sets, restrict_domain};
 pub use relation::{Conj, Rel, Set};
 pub use simplification::{simplify, simplify_set};

@@ -1,0 +1,8 @@
+use Rattle.std.proofs.Common.{pos, ◌≤ℤ◌, take}
+use Rattle.std.specs.List.{All}
+use Rattle.spf_term.specs.Value.{value}
+use Rattle.spf_term.specs.declared.term.Term.{Term}
+use Rattle.spf_rel.proofs.membership.none_below_zero.Given as goal
+
+abbrev pub invariant-loop-term : goal.invariant-loop-term
+invariant-loop-term l = All (λ (term : Term). pos 0 ≤ℤ value l.env l.point term) (take l.term-index l.terms)
