@@ -11,6 +11,9 @@
 //! is put in order. They give exactly what the definition says, or the number that passes the number rule at its first test
 //! that fails; a law says that simplified conjunctions have the same points.
 //!
+//! `as_function` gives the outputs of a relation as terms in its inputs (specs/Function.antt), and `contains` tells whether a
+//! pair is in a relation without inner variables.
+//!
 //! It stands on the terms of spf_term. Each operation but simplification is linear in its result. Each call recurses as deep
 //! as a term nests: the terms of a result nest no deeper than those that it is made of, but for what simplification puts in
 //! place of variables, and a term of at most 16,384 monomials nests at most that deep.
