@@ -29,7 +29,7 @@ module _ (P : ℕ → Type 0) where
   pub in_term : (term : Term) → Variables P term → InList (out-Term term).monos
   in_term term h = recursion_from_All (MonoVariables P) (out-Term term).monos (variables_are P term h)
 
-  in_both : (a b : List Mono) → InList a → InList b → InList (a ++ b)
+  pub in_both : (a b : List Mono) → InList a → InList b → InList (a ++ b)
   in_both [] b h k = k
   in_both (mono ∷ a) b h k = (h.0, in_both a b h.1 k)
 
@@ -73,7 +73,7 @@ module _ (P : ℕ → Type 0) where
 
   -- ---- signs and solutions
 
-  scaled_in : (factor : ℤ) (monos : List Mono) → InList monos → InList (scaled factor monos)
+  pub scaled_in : (factor : ℤ) (monos : List Mono) → InList monos → InList (scaled factor monos)
   scaled_in factor [] h = tt
   scaled_in factor (mono ∷ monos) h = (h.0, scaled_in factor monos h.1)
 

@@ -56,3 +56,18 @@ module _ (low : ℕ) where
 
     pub all_below : (term : Term) → mentions_from low term ≡ false → Variables (λ number. number < low) term
     all_below (Term' shape monos constant) none = row_below monos none
+
+  -- ---- a term with lower variables alone mentions none from there on
+
+  mutual
+    atom_none : (atom : Atom) → AtomVariables (λ number. number < low) atom → atom_mentions_from low atom ≡ false
+    atom_none (Var number) less = let test : nat_lt number low ≡ true = grind (arith, nat_tests) in ap (λ is. if is then false else true) test
+    atom_none (Param number) h = refl
+    atom_none (App fun arg) h = none_from arg h
+
+    row_none : {n : _} (row : Row_of-Mono n) → SumVariables (λ number. number < low) row → sum_mentions_from low row ≡ false
+    row_none end_of-Mono h = refl
+    row_none (more_of-Mono coef atom others) h = ap (λ here. if here then true else sum_mentions_from low others) (atom_none atom h.0) ∙ row_none others h.1
+
+    pub none_from : (term : Term) → Variables (λ number. number < low) term → mentions_from low term ≡ false
+    none_from (Term' shape monos constant) h = row_none monos h

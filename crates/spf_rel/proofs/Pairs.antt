@@ -14,7 +14,7 @@ module _ {X : Type 0} where
   pub there_later : (x y : X) (xs : List X) → Contains xs y → Contains (x ∷ xs) y
   there_later x y xs at = Contains-append_right (x ∷ []) xs y at
 
-  single : (x y : X) → Contains (x ∷ []) y → y ≡ x
+  pub single : (x y : X) → Contains (x ∷ []) y → y ≡ x
   single x y (zero, inside, is) = sym is
   single x y (suc k, inside, is) = absurd (omega arith)
 

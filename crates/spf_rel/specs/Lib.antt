@@ -1,5 +1,6 @@
 pub mod Elimination
 pub mod Function
+pub mod Graph
 pub mod Join
 pub mod Meaning
 pub mod Operations

@@ -9,7 +9,9 @@
 //! `simplify` and `simplify_set` make each conjunction simpler by the steps of `IsSimplification` (specs/Simplified.antt): terms
 //! are made normal, inner variables are solved for, constant constraints and variables that don't occur go, and what is left
 //! is put in order. They give exactly what the definition says, or the number that passes the number rule at its first test
-//! that fails; a law says that simplified conjunctions have the same points.
+//! that fails; a law says that simplified conjunctions have the same points. The composition of graphs, which are relations
+//! whose outputs are terms of their inputs (`graph` in specs/Graph.antt), is simplified to the equality of its output with one
+//! term, within the number rule, and laws say which term that is (src/graphs.rt).
 //!
 //! `as_function` gives the outputs of a relation as terms in its inputs (specs/Function.antt), and `contains` tells whether a
 //! pair is in a relation without inner variables.
@@ -20,9 +22,12 @@
 #![tactic(auto)]
 
 mod compaction;
+mod definitions;
 mod elimination;
 mod evaluation;
+mod functional;
 mod functions;
+mod graphs;
 mod inputs;
 mod inverses;
 mod join;
@@ -42,7 +47,12 @@ mod solving;
 mod tidying;
 mod unions;
 
+pub use functional::{graph, reversed};
 pub use functions::as_function;
+pub use graphs::{
+    compositions_have_one_function, compositions_of_graphs_are_graphs, compositions_stay_light,
+    first_variables_are_replaced, graphs_are_formed, inverses_are_graphs,
+};
 pub use inverses::inverse;
 pub use membership::contains;
 pub use products::{apply, compose, intersect, intersect_sets, restrict_domain};

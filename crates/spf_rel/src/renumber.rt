@@ -35,7 +35,7 @@ fn moved(blocks: &Blocks, number: u32) -> u32
 }
 
 #[cycle(renumbered)]
-fn renumbered_atom(alloc: Global, blocks: &Blocks, atom: &Atom) -> Result<Atom, NoMemory>
+pub(crate) fn renumbered_atom(alloc: Global, blocks: &Blocks, atom: &Atom) -> Result<Atom, NoMemory>
     requires { AtomVariables (λ number. moved blocks.now number < 2 ^ 32) atom.now }
     ensures { IfOk result (λ made. made ≡ renumbered_atom (moved blocks.now) atom.now) }
 {

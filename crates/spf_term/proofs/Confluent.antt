@@ -21,7 +21,7 @@ weighed_same a b same (mono ∷ monos) = λ i. (mono.coef *ℤ same mono.atom i)
 abbrev of_normal : (Atom → ℤ) → Atom → ℤ
 of_normal weight atom = weight (normal_atom atom)
 
-weighed_normal : (weight : Atom → ℤ) (monos : List Mono) → weighed weight (map normal_mono monos) ≡ weighed (of_normal weight) monos
+pub weighed_normal : (weight : Atom → ℤ) (monos : List Mono) → weighed weight (map normal_mono monos) ≡ weighed (of_normal weight) monos
 weighed_normal weight [] = refl
 weighed_normal weight (mono ∷ monos) = ap (λ (more : ℤ). (mono.coef *ℤ weight (normal_atom mono.atom)) +ℤ more) (weighed_normal weight monos)
 
@@ -33,10 +33,10 @@ twice_normal : (weight : Atom → ℤ) (monos : List Mono) → weighed (of_norma
 twice_normal weight monos =
     all_normal_weighed (of_normal weight) monos ∙ weighed_same (of_normal (of_normal weight)) (of_normal weight) (λ atom. ap weight (settled_atom (normal_atom atom) (normal_atom_is atom))) monos
 
-normal_monos_are : (term : Term) → (out-Term (normal term)).monos ≡ all_added (map normal_mono (out-Term term).monos)
+pub normal_monos_are : (term : Term) → (out-Term (normal term)).monos ≡ all_added (map normal_mono (out-Term term).monos)
 normal_monos_are term = ap (λ of. (out-Term of).monos) (normal_term_is term) ∙ out_monos (all_added (map normal_mono (out-Term term).monos)) (out-Term term).constant
 
-normal_constant_is : (term : Term) → (out-Term (normal term)).constant ≡ (out-Term term).constant
+pub normal_constant_is : (term : Term) → (out-Term (normal term)).constant ≡ (out-Term term).constant
 normal_constant_is term = ap (λ of. (out-Term of).constant) (normal_term_is term) ∙ out_constant (all_added (map normal_mono (out-Term term).monos)) (out-Term term).constant
 
 module _ (var : ℕ) where

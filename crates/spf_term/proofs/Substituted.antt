@@ -51,7 +51,7 @@ module _ (var : ℕ) (by : Term) where
   row_constants end_of-Mono = refl
   row_constants (more_of-Mono coef atom others) = ap (λ (more : ℤ). constant_of (record { coef = coef; atom = atom }) +ℤ more) (row_constants others)
 
-  substituted_is : (term : Term) → substituted var by term ≡ sum_of (parts (out-Term term).monos) ((out-Term term).constant +ℤ constants (out-Term term).monos)
+  pub substituted_is : (term : Term) → substituted var by term ≡ sum_of (parts (out-Term term).monos) ((out-Term term).constant +ℤ constants (out-Term term).monos)
   unfolding out-Term denote.Hole.Carrier.out
   substituted_is (Term' shape monos constant) =
       λ i. sum_of ((row_parts monos ∙ ap parts (sym (items_shown-the_row-Mono-0 shape monos))) i) (constant +ℤ (row_constants monos ∙ ap constants (sym (items_shown-the_row-Mono-0 shape monos))) i)

@@ -1,5 +1,7 @@
 pub mod Bounded
 pub mod Environment
+pub mod Equation
+pub mod Measure
 pub mod Normal
 pub mod NumberRule
 pub mod Order

@@ -11,7 +11,10 @@
 //! number rule on the terms that they are given and on what they make of them (`IsTested`): `excess` tells where a term
 //! passes it. While it is made, numbers have 128 bits (src/wide.rt), since those that pass 64 bits may cancel again. Crates
 //! that test the rule on many terms together make wide normal forms and substitutions, and narrow them after their test.
-//! `solve` finds a variable that a term can be solved for where the term is 0 (`Solves` in specs/Solution.antt).
+//! `solve` finds a variable that a term can be solved for where the term is 0 (`Solves` in specs/Solution.antt). Laws say where
+//! the equality of a variable and a term (`equation` in specs/Equation.antt) is solved, and what becomes of it when a term comes
+//! in place of another variable; and how large normal forms and substitutions become, by measures of their coefficients and
+//! constants (specs/Measure.antt).
 //!
 //! The crate stands on the arithmetic of spf_base and on the kit's lists. `copy`, `normal` and `substitute` take memory, the
 //! other calls none and are linear in the term. Each call recurses as deep as the term nests: with 8 MB of stack a term that
@@ -23,7 +26,9 @@ mod collect;
 mod copies;
 mod counts;
 mod env;
+mod equations;
 mod fault;
+mod measures;
 mod narrow;
 mod normals;
 mod number_rule;
@@ -40,7 +45,12 @@ mod wide;
 pub use bounded::bounded_terms_are_small;
 pub use counts::applications;
 pub use env::{Env, number_at};
+pub use equations::{equations_are_kept, equations_are_solved, substitution_keeps_the_normal_form};
 pub use fault::TermFault;
+pub use measures::{
+    equations_are_bounded, normal_forms_are_no_larger, numbers_are_within_the_size,
+    substitutions_are_bounded,
+};
 pub use narrow::{narrowed, wide_monomials};
 pub use normals::{normal, normal_form_is_normal, normal_form_keeps_the_value, normal_wide};
 pub use number_rule::{excess, first_outside, monomials};
