@@ -199,22 +199,28 @@ unbroken true b c e = absurd cc
 unbroken false true c e = absurd cc
 unbroken false false true e = absurd cc
 
-module _ (wanted : Wanted) (names : RelNames) (literals : List RawLiteral) (kept : least_rule wanted literals ≡ None) where
+pub rel_formed_by : (names : RelNames) (literals : List RawLiteral) → differ (shape_of_all literals) literals ≡ false → list_any breaks_limits literals ≡ false → IsFormedRel (rel_of names literals)
+rel_formed_by names literals same few = conjs_formed names (shape_of_all literals) literals same few
+
+no_outputs : (shape : Shape) → is_wanted wanted.Set shape ≡ true → ins_of shape + outputs_of shape ≡ ins_of shape
+no_outputs (Points arity) e = omega arith
+no_outputs (Pairs ins outs) e = absurd cc
+
+pub set_formed_by : (names : RelNames) (literals : List RawLiteral) → is_wanted wanted.Set (shape_of_all literals) ≡ true → differ (shape_of_all literals) literals ≡ false → list_any breaks_limits literals ≡ false
+    → IsFormedSet (set_of names literals)
+set_formed_by names literals points same few =
+    subst (λ (outer : ℕ). All (IsFormed outer) (map (conj_of names) literals)) (no_outputs (shape_of_all literals) points) (conjs_formed names (shape_of_all literals) literals same few)
+
+module _ (wanted : Wanted) (literals : List RawLiteral) (kept : least_rule wanted literals ≡ None) where
   rules : (breaks_arities wanted literals ≡ false) × (list_any breaks_limits literals ≡ false)
   rules = unbroken (breaks_arities wanted literals) (list_any breaks_names literals) (list_any breaks_limits literals) kept
 
-  all_formed : All (IsFormed (ins_of (shape_of_all literals) + outputs_of (shape_of_all literals))) (map (conj_of names) literals)
-  all_formed = conjs_formed names (shape_of_all literals) literals (right_false _ _ rules.0) rules.1
-
-  shape_wanted : is_wanted wanted (shape_of_all literals) ≡ true
-  shape_wanted = from_not _ (left_false _ _ rules.0)
-
 pub rel_formed : (names : RelNames) (literals : List RawLiteral) → least_rule wanted.Relation literals ≡ None → IsFormedRel (rel_of names literals)
-rel_formed names literals kept = all_formed wanted.Relation names literals kept
+rel_formed names literals kept =
+    let r = rules wanted.Relation literals kept in
+    rel_formed_by names literals (right_false _ _ r.0) r.1
 
 pub set_formed : (names : RelNames) (literals : List RawLiteral) → least_rule wanted.Set literals ≡ None → IsFormedSet (set_of names literals)
 set_formed names literals kept =
-    subst (λ (outer : ℕ). All (IsFormed outer) (map (conj_of names) literals)) (no_outputs (shape_of_all literals) (shape_wanted wanted.Set names literals kept)) (all_formed wanted.Set names literals kept) where
-      no_outputs : (shape : Shape) → is_wanted wanted.Set shape ≡ true → ins_of shape + outputs_of shape ≡ ins_of shape
-      no_outputs (Points arity) e = omega arith
-      no_outputs (Pairs ins outs) e = absurd cc
+    let r = rules wanted.Set literals kept in
+    set_formed_by names literals (from_not _ (left_false _ _ r.0)) (right_false _ _ r.0) r.1

@@ -120,7 +120,21 @@ fn note_literal(alloc: Global, names: &mut RelNames, literal: &RawLiteral) -> Re
     note_facts(alloc, names, variables.as_slice(), facts.as_slice())
 }
 
-/// These names, and behind them those that the literals use first. Each monomial is looked for among the names.
+/// Puts the names that the literals use first behind the others. Each monomial is looked for among the names.
+pub(crate) fn note_literals(
+    alloc: Global,
+    names: &mut RelNames,
+    literals: &[RawLiteral],
+) -> Result<(), NoMemory>
+    ensures { OnOk result (names.new ≡ names_of names.old literals.now) }
+{
+    for literal in literals {
+        note_literal(alloc, names, literal)?;
+    }
+    Ok(())
+}
+
+/// These names, and behind them those that the literals use first.
 pub(crate) fn names_of(
     alloc: Global,
     names: &RelNames,
@@ -129,9 +143,7 @@ pub(crate) fn names_of(
     ensures { IfOk result (λ made. made ≡ names_of names.now literals.now) }
 {
     let mut made = RelNames::copy(alloc, names)?;
-    for literal in literals {
-        note_literal(alloc, &mut made, literal)?;
-    }
+    note_literals(alloc, &mut made, literals)?;
     Ok(made)
 }
 

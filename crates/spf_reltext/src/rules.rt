@@ -65,7 +65,8 @@ pub(crate) fn shape_of_all(literals: &[RawLiteral]) -> Shape
     }
 }
 
-fn same_shape(one: Shape, other: Shape) -> bool
+/// Whether both are of sets or both of relations, with the same arities.
+pub fn same_shape(one: Shape, other: Shape) -> bool
     ensures { result ≡ same_shape one other }
 {
     match (one, other) {
@@ -85,7 +86,7 @@ fn is_wanted(wanted: Wanted, shape: Shape) -> bool
     }
 }
 
-fn differ(shape: Shape, literals: &[RawLiteral]) -> bool
+pub(crate) fn differ(shape: Shape, literals: &[RawLiteral]) -> bool
     ensures { result ≡ differ shape literals.now }
 {
     literals
@@ -199,7 +200,7 @@ fn breaks_names(alloc: Global, literal: &RawLiteral) -> Result<bool, NoMemory>
     Ok(names_break(variables.as_slice(), facts.as_slice()))
 }
 
-fn any_breaks_names(alloc: Global, literals: &[RawLiteral]) -> Result<bool, NoMemory>
+pub(crate) fn any_breaks_names(alloc: Global, literals: &[RawLiteral]) -> Result<bool, NoMemory>
     ensures { IfOk result (λ broken. broken ≡ list_any breaks_names literals.now) }
 {
     for literal in literals {
@@ -274,7 +275,7 @@ fn breaks_limits(alloc: Global, literal: &RawLiteral) -> Result<bool, NoMemory>
     any_has_long_side(alloc, literal.constraints.as_slice())
 }
 
-fn any_breaks_limits(alloc: Global, literals: &[RawLiteral]) -> Result<bool, NoMemory>
+pub(crate) fn any_breaks_limits(alloc: Global, literals: &[RawLiteral]) -> Result<bool, NoMemory>
     ensures { IfOk result (λ broken. broken ≡ list_any breaks_limits literals.now) }
 {
     for literal in literals {
