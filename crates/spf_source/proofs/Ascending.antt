@@ -24,8 +24,8 @@ use Rattle.spf_store.specs.Shaped.{loops_of, starts_of}
 use Rattle.spf_store.specs.Source.{source_result, unit_effect, unit_trace, units_effect}
 use Rattle.spf_store.proofs.SmallNumbers.{all_at}
 use Rattle.spf_store.specs.ActionEffect.{effect_is_performed}
-use Rattle.spf_source.specs.Behavior.{source_behavior, unit_at}
-use Rattle.spf_source.specs.BehaviorLaw.{actions_at, first_stands, give_is, same_trace, touch_is, touches_are}
+use Rattle.spf_store.specs.Behavior.{source_behavior, unit_at}
+use Rattle.spf_store.specs.BehaviorLaw.{actions_at, first_stands, give_is, same_trace, touch_is, touches_are}
 use Rattle.spf_store.specs.Needs.{OwnsAll}
 
 -- a list is its elements in turn

@@ -1,3 +1,1 @@
-pub mod Behavior
-pub mod BehaviorLaw
 pub mod Ready

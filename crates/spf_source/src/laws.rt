@@ -10,7 +10,7 @@ ghost use Rattle.spf_space.specs.Units.{units_of};
 ghost use Rattle.spf_store.specs.Accesses.{touches_of};
 ghost use Rattle.spf_store.specs.Shaped.{loops_of};
 ghost use Rattle.spf_store.specs.Source.{source_result};
-ghost use Rattle.spf_source.specs.Behavior.{source_behavior};
+ghost use Rattle.spf_store.specs.Behavior.{source_behavior};
 
 /// Law: the units of a kernel keep the frame law, and all of them, run in ascending order, give the source result.
 pub fn ascending_units_are_the_source()

@@ -5,7 +5,7 @@ ghost use Rattle.spf_store.specs.Accepted.{IsAccepted};
 ghost use Rattle.spf_store.specs.Accesses.{touches_of};
 ghost use Rattle.spf_store.specs.FirstFault.{AreInRange};
 ghost use Rattle.spf_store.specs.Shaped.{IsShapeOf};
-ghost use Rattle.spf_source.specs.Behavior.{source_behavior};
+ghost use Rattle.spf_store.specs.Behavior.{source_behavior};
 
 use crate::unit::run_unit;
 use spf_kernel::Kernel;
@@ -28,7 +28,7 @@ impl<'a> Model for SourceUnits<'a> {
     ghost use Rattle.std.specs.Coded.{codes};
     ghost use Rattle.spf_term.specs.contracts.term.Term as term;
     ghost use Rattle.spf_kernel.specs.contracts.tree.Value as value;
-    ghost use Rattle.spf_source.specs.Behavior.{AreSourced, Sourced};
+    ghost use Rattle.spf_store.specs.Behavior.{AreSourced, Sourced};
 
     ghost Value = { Sourced };
 
@@ -71,8 +71,8 @@ impl<'a> SourceUnits<'a> {
 }
 
 impl<'a> Units for SourceUnits<'a> {
-    ghost use Rattle.spf_source.specs.Behavior.{source_behavior};
-    ghost use Rattle.spf_source.specs.BehaviorLaw.{source_law};
+    ghost use Rattle.spf_store.specs.Behavior.{source_behavior};
+    ghost use Rattle.spf_store.specs.BehaviorLaw.{source_law};
 
     ghost behavior = { λ units. source_behavior units.env units.tree units.steps };
 

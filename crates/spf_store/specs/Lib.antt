@@ -3,6 +3,8 @@ pub mod Accesses
 pub mod ActionEffect
 pub mod ActionTrace
 pub mod Actions
+pub mod Behavior
+pub mod BehaviorLaw
 pub mod Done
 pub mod Effect
 pub mod Event

@@ -1,5 +1,5 @@
 use Rattle.std.proofs.Common.{ℕ, ℤ, ap}
-use Rattle.spf_source.specs.BehaviorLaw.{source_law}
+use Rattle.spf_store.specs.BehaviorLaw.{source_law}
 use Rattle.spf_source.proofs.Ascending.{ascending}
 use Rattle.spf_source.proofs.laws.ascending_units_are_the_source.Goals as goal
 

@@ -3,7 +3,7 @@ use Rattle.spf_touch.specs.Frame.{IsTouched, after_unit}
 use Rattle.spf_space.specs.Units.{units_of}
 use Rattle.spf_space.specs.declared.shape.LoopShape.{LoopShape}
 use Rattle.spf_space.proofs.Textual.{stood}
-use Rattle.spf_source.specs.Behavior.{Sourced, source_behavior}
+use Rattle.spf_store.specs.Behavior.{Sourced, source_behavior}
 use Rattle.spf_source.proofs.Ascending.{unit_done, unit_own, unit_range}
 use Rattle.spf_source.proofs.source_units.SourceUnitsUnits.run.Goals as goal
 

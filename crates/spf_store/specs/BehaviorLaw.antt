@@ -28,7 +28,7 @@ use Rattle.spf_store.specs.Source.{items_of, iteration_of, unit_trace}
 use Rattle.spf_store.specs.ActionEffect.{effect_is_performed}
 use Rattle.spf_store.specs.ActionTrace.{Fits, items_fit}
 use Rattle.spf_store.specs.Actions.{actions_of}
-use Rattle.spf_source.specs.Behavior.{source_behavior, unit_at}
+use Rattle.spf_store.specs.Behavior.{source_behavior, unit_at}
 
 abbrev none : Unit
 none = record { step = 0; loop_no = 0; position = 0 }
