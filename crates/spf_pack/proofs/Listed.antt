@@ -60,6 +60,9 @@ all_distinct base (x ∷ xs) is = elim (cases_Bool (is_in base x)) [
 ]
 
 -- a list of distinct numbers that are the numbers below count
+pub distinct_long : (list : List ℕ) (count : ℕ) → IsDistinct eqb list → ((y : ℕ) → is_in list y ≡ true → y < count) → ((y : ℕ) → y < count → is_in list y ≡ true) → length list ≡ count
+distinct_long list count distinct below all = omega (arith, length-le_from_distinct_below list count distinct below, le-length_from_below list count all)
+
 pub distinct_perm : (list : List ℕ) (count : ℕ) → count < 2 ^ 32 → IsDistinct eqb list → ((y : ℕ) → is_in list y ≡ true → y < count) → ((y : ℕ) → y < count → is_in list y ≡ true) → IsPerm list
 distinct_perm list count few distinct below all = record {
   few = omega (arith, long);
@@ -72,7 +75,7 @@ distinct_perm list count few distinct below all = record {
 }
   where
     long : length list ≡ count
-    long = omega (arith, length-le_from_distinct_below list count distinct below, le-length_from_below list count all)
+    long = distinct_long list count distinct below all
 
     apart : AllPairs (λ x y. x ≢ y) list
     apart = AllPairs-from_IsDistinct Decides-eqb list distinct

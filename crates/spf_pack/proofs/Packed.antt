@@ -6,7 +6,7 @@ use Rattle.spf_perm.specs.Perm.{AreInverse, IsMade, IsPerm, IsPermOf}
 use Rattle.spf_perm.specs.declared.perm_fault.PermFault.{PermFault}
 use Rattle.spf_perm.specs.declared.perm_fault.PermFault.TheVariants.{OutOfRange, NotPerm, Memory}
 use Rattle.spf_pack.specs.FirstTouch.{all_listed, first_touch_order, is_in, once}
-use Rattle.spf_pack.proofs.Listed.{all_append, all_distinct, all_has, distinct_perm, in_at, nothing_distinct, place_in}
+use Rattle.spf_pack.proofs.Listed.{all_append, all_distinct, all_has, distinct_long, distinct_perm, in_at, nothing_distinct, place_in}
 use Rattle.spf_pack.proofs.Turned.{inverse_in_turn}
 
 module _ (touched now back order : List ℕ) (is : IsPerm back) (inverse : AreInverse now back) (listed : order ≡ all_listed (all_listed [] touched) back) where
@@ -16,10 +16,20 @@ module _ (touched now back order : List ℕ) (is : IsPerm back) (inverse : AreIn
   back_has : (y : ℕ) → y < length back → is_in back y ≡ true
   back_has y lt = let r = reached back is y lt in subst (λ x. is_in back x ≡ true) r.2 (in_at back r.0 0 r.1)
 
+  distinct : IsDistinct eqb order
+  distinct = subst (IsDistinct eqb) (sym listed) (all_distinct (all_listed [] touched) back (all_distinct [] touched nothing_distinct))
+
+  inside : All (λ x. x < length back) order → (y : ℕ) → is_in order y ≡ true → y < length back
+  inside below y h = let at = place_in order y h in subst (λ x. x < length back) (at.2 0) (below at.0 0 at.1)
+
+  has : (y : ℕ) → y < length back → is_in order y ≡ true
+  has y lt = rw listed (all_has (all_listed [] touched) back y (inr (back_has y lt)))
+
   pub order_perm : All (λ x. x < length back) order → IsPerm order
-  order_perm below =
-      distinct_perm order (length back) is.few (subst (IsDistinct eqb) (sym listed) (all_distinct (all_listed [] touched) back (all_distinct [] touched nothing_distinct)))
-      (λ y h. let at = place_in order y h in subst (λ x. x < length back) (at.2 0) (below at.0 0 at.1)) (λ y lt. rw listed (all_has (all_listed [] touched) back y (inr (back_has y lt))))
+  order_perm below = distinct_perm order (length back) is.few distinct (inside below) has
+
+  pub order_long : All (λ x. x < length back) order → length order ≡ length now
+  order_long below = distinct_long order (length back) distinct (inside below) has ∙ inverse.lengths
 
 -- a list that is a permutation is refused for want of memory alone
 pub perm_made : (list : List ℕ) (answer : Result (List ℕ) PermFault) → IsPerm list → IsPermOf list answer → IsMade IsPerm answer

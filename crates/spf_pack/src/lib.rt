@@ -3,7 +3,7 @@
 //! `cpack` goes through the iterations of one loop in their current order, `tilepack` through all units in the order of their
 //! places. Each takes the touches of the listed arrays, and gives the touched places in the order of their first touch, and
 //! then the other places by the present packing (`IsFirstTouchPacking`). Upward the crate gives this contract, the law that
-//! the second leaves no choice (`one_tilepacking`), and the units in the order of their places (`units_in_order`).
+//! neither leaves a choice (`one_packing`), and the units in the order of their places (`units_in_order`).
 //!
 //! `pack_cells` moves the cells of all arrays to where the packings take them, and `unpack` fetches them back. Where an
 //! element goes is `packed_element`, which is a renaming in the sense of spf_touch (`packing_is_renaming`).
@@ -20,6 +20,6 @@ mod packing;
 mod packs;
 
 pub use in_order::units_in_order;
-pub use laws::one_tilepacking;
+pub use laws::one_packing;
 pub use packing::{pack_cells, packing_is_renaming, unpack};
 pub use packs::{cpack, tilepack};

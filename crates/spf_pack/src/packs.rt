@@ -3,7 +3,7 @@
 ghost use Rattle.std.specs.Prelude.{◌≡◌, ◌+◌, ◌<◌, ◌≤◌, ◌^◌, ℕ, All, IfOk, Ok, length, map};
 ghost use Rattle.spf_perm.specs.Perm.{AreInverse, IsMade, IsPerm};
 ghost use Rattle.spf_pack.specs.FirstTouch.{IsFirstTouchPacking, first_touch_order, in_turn};
-ghost use Rattle.spf_pack.specs.Packs.{CanCpack, CanTilepack, IsArrayOf, IsCpacking, IsTilepacking, touched_by};
+ghost use Rattle.spf_pack.specs.Packs.{CanCpack, CanTilepack, IsArrayOf, IsCpacking, IsTilepacking, first_packing, touched_by};
 
 use crate::in_order::units_in_order;
 use crate::listing::Listing;
@@ -26,7 +26,8 @@ pub fn cpack(
     now: &[Perm],
 ) -> Result<Perm, NoMemory>
     requires { CanCpack touches.now shape.now by order.now members.now now.now }
-    ensures { IfOk result (IsCpacking touches.now shape.now by order.now members.now now.now) }
+    ensures packing { IfOk result (IsCpacking touches.now shape.now by order.now members.now now.now) }
+    ensures long { IfOk result (λ packing. length packing ≡ length (first_packing members.now now.now)) }
 {
     let units = iterations_in_order(alloc, shape.before(by), order)?;
     packed(
@@ -50,7 +51,8 @@ pub fn tilepack(
     now: &[Perm],
 ) -> Result<Perm, NoMemory>
     requires { CanTilepack touches.now shape.now places.now members.now now.now }
-    ensures { IfOk result (IsTilepacking touches.now shape.now places.now members.now now.now) }
+    ensures packing { IfOk result (IsTilepacking touches.now shape.now places.now members.now now.now) }
+    ensures long { IfOk result (λ packing. length packing ≡ length (first_packing members.now now.now)) }
 {
     let units = units_in_order(alloc, shape, places)?;
     packed(
@@ -89,6 +91,7 @@ fn in_first_touch_order(
     requires touches { 0 < length units.now → 0 < length touches.now }
     ensures order { IfOk result (λ places. places.items ≡ first_touch_order (touched_by touches.now arrays.now members.now units.now) now.now) }
     ensures perm { IfOk result (λ places. IsPerm places.items) }
+    ensures long { IfOk result (λ places. length places.items ≡ length now.now) }
 {
     let mut listing = Listing::new(alloc, now.len())?;
     listing.put_units(arrays, members, touches, units)?;
@@ -107,7 +110,8 @@ fn packed(
 ) -> Result<Perm, NoMemory>
     requires members { All (IsArrayOf arrays.now (length now.now)) members.now }
     requires touches { 0 < length units.now → 0 < length touches.now }
-    ensures { IfOk result (IsFirstTouchPacking (touched_by touches.now arrays.now members.now units.now) now.now) }
+    ensures packing { IfOk result (IsFirstTouchPacking (touched_by touches.now arrays.now members.now units.now) now.now) }
+    ensures long { IfOk result (λ packing. length packing ≡ length now.now) }
 {
     let order = in_first_touch_order(alloc, touches, arrays, units, members, now)?;
     let places = made(Perm::of_list(alloc, order))?;

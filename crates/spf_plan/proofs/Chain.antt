@@ -44,12 +44,12 @@ module _ (touches : List (List Touch)) (shape : Shape) (number : ℕ) (plan next
 
   -- a step that isn't a tiling leaves the number of tiles
   count_stays : (step : Step) → is_tiling step ≡ false → Takes touches shape number plan (Ok tt) next step → next.count ≡ plan.count
-  count_stays (Cpack arrays by) other takes = let ok = takes.0 in cc
+  count_stays (Cpack arrays by) other takes = ap (λ (p : Planned). p.count) takes.after_is
   count_stays (LexGroup of by) other takes = order_keeps_count of _ takes
   count_stays (LexSort of by) other takes = order_keeps_count of _ takes
   count_stays (Bucket of by size) other takes = order_keeps_count of _ takes
   count_stays (Tile of at seed parts) other takes = cc
-  count_stays (TilePack arrays) other takes = let ok = takes.0 in cc
+  count_stays (TilePack arrays) other takes = ap (λ (p : Planned). p.count) takes.after_is
 
   pub untiled_further : (steps : List Step) (index : ℕ) (step : Step) → TilesOnce steps → slice_get steps index ≡ Some step → Takes touches shape number plan (Ok tt) next step
       → IsUntiled steps index plan.count → IsUntiled steps (index + 1) next.count

@@ -1,6 +1,8 @@
 pub mod Chain
 pub mod Copies
 pub mod OnePlan
+pub mod OneStep
+pub mod Packings
 pub mod Reordering
 pub mod Sources
 pub mod Tilings

@@ -1,172 +1,40 @@
 -- Steps have one answer.
-use Rattle.std.proofs.Common.{◌≡◌, ◌⊎◌, ℕ, ◌+◌, ◌-◌, ◌<◌, get_or, inl, inr, List, [], ◌∷◌, Result, Ok, Err, Some, slice_set, slice_get, arith, refl, sym, ap, ◌∙◌, subst}
+use Rattle.std.proofs.Common.{◌≡◌, ◌⊎◌, ℕ, ◌+◌, inl, inr, List, [], ◌∷◌, Result, Ok, Err, sym, ap, ◌∙◌, subst}
 use Rattle.std.specs.Prelude.{⊤}
-use Rattle.std.proofs.lemmas.Option.{slice_get_within}
-use Rattle.spf_perm.specs.Perm.{IsPerm}
-use Rattle.spf_touch.specs.Repeated.{touches_at}
 use Rattle.spf_touch.specs.declared.touch.Touch.{Touch}
 use Rattle.spf_space.specs.Places.{order_of}
-use Rattle.spf_space.specs.Units.{units_of}
 use Rattle.spf_space.specs.declared.shape.Shape.{Shape}
-use Rattle.spf_space.specs.declared.unit.Unit.{Unit}
-use Rattle.spf_script.specs.declared.resolved.Seed.{Seed}
-use Rattle.spf_script.specs.declared.resolved.Seed.TheVariants.{Block, Spread, Plug}
 use Rattle.spf_script.specs.declared.resolved.Step.{Step}
 use Rattle.spf_script.specs.declared.resolved.Step.TheVariants.{Cpack, LexGroup, LexSort, Bucket, Tile, TilePack}
-use Rattle.spf_layers.specs.Legality.{IsFirstPair}
 use Rattle.spf_group.specs.Keys.{bucket_key, group_key, sort_key}
-use Rattle.spf_group.specs.Ordered.{IsOrderedBy}
-use Rattle.spf_seed.specs.Spread.{IsSpread}
-use Rattle.spf_seed.specs.declared.view.SeedView.{SeedView}
-use Rattle.spf_grow.specs.Growth.{Falls, IsGrown, first_unit, seed_number}
-use Rattle.spf_plan.specs.Planned.{AreLegal, Planned, by_iteration, reordered, source_plan, tiled, units_in}
-use Rattle.spf_plan.specs.Seeded.{IsSeedOf, view_of}
-use Rattle.spf_plan.specs.Taken.{AreFirst, AreFirstFallen, AreFirstReversed, AreGrown, IsPlanAnswer, Reorders, Takes, TakesAll, TakesLater, TakesOrder, TakesTile, packed_places}
+use Rattle.spf_pack.specs.Packs.{IsCpacking, IsTilepacking}
+use Rattle.spf_plan.specs.Packed.{places_of}
+use Rattle.spf_plan.specs.Planned.{Planned, source_plan}
+use Rattle.spf_plan.specs.Taken.{IsPlanAnswer, Reorders, Takes, TakesAll, TakesOrder, packed_places}
 use Rattle.spf_plan.specs.declared.plan_fault.PlanFault.{PlanFault}
-use Rattle.spf_plan.specs.declared.plan_fault.PlanFault.TheVariants.{Illegal, Later, Memory}
-
--- that there is one stable order by keys
-abbrev pub OneOrder : Type 0
-OneOrder = (key : ℕ → List ℕ) (old a b : List ℕ) → IsPerm a → IsPerm b → IsOrderedBy key old a → IsOrderedBy key old b → a ≡ b
-
--- that there is one list of parts along a breadth-first order
-abbrev pub OneSpread : Type 0
-OneSpread = (view : SeedView) (a b : List ℕ) → IsSpread view a → IsSpread view b → a ≡ b
-
--- that there is one list of numbers that grow from a seed
-abbrev pub OneGrowth : Type 0
-OneGrowth = (touches : ℕ → List Touch) (count first : ℕ) (seed : List ℕ) (parts : ℕ) (numbers others : List ℕ) →
-    IsGrown touches count first seed parts numbers → IsGrown touches count first seed parts others → numbers ≡ others
-
--- two answers are one, but for out of memory
-abbrev Agree : {A : Type 0} → Result A PlanFault → Result A PlanFault → Type 0 → Type 0
-Agree a b same = (a ≡ Err Memory) ⊎ ((b ≡ Err Memory) ⊎ same)
-
--- a relation has one first pair
-pair_once : (R : ℕ → ℕ → Type 0) (p q a b : ℕ) → IsFirstPair R p q → IsFirstPair R a b → (p ≡ a) × (q ≡ b)
-pair_once R p q a b x y =
-    let later : q ≡ b = omega (arith, x.least a b y.there, y.least p q x.there) in
-    let here : R a q = subst (R a) (sym later) y.there in
-    let there : R p b = subst (R p) later x.there in
-    (omega (arith, x.greatest a here, y.greatest p there), later)
-
-value_once : {A : Type 0} (xs : List A) (m n : ℕ) (a b : A) → m ≡ n → slice_get xs m ≡ Some a → slice_get xs n ≡ Some b → a ≡ b
-value_once xs m n a b same first second = let e : Some a ≡ Some b = sym first ∙ (ap (slice_get xs) same ∙ second) in cc
-
-one_pair : (R : ℕ → ℕ → Type 0) (shape : Shape) (p q u v : Unit) → AreFirst R shape p q → AreFirst R shape u v → (p ≡ u) × (q ≡ v)
-one_pair R shape p q u v a b =
-    let same = pair_once R a.earlier a.later b.earlier b.later a.first b.first in
-    let units = units_of shape.steps shape.loops in
-    (value_once units a.earlier b.earlier p u same.0 a.earlier_is b.earlier_is, value_once units a.later b.later q v same.1 a.later_is b.later_is)
+use Rattle.spf_plan.specs.declared.plan_fault.PlanFault.TheVariants.{Memory}
+use Rattle.spf_plan.proofs.OneStep.{Agree, OneCpacking, OneGrowth, OneOrder, OneSpread, OneTilepacking, one_pack, one_reorder, one_tile}
 
 module _ (touches : List (List Touch)) (shape : Shape) where
-  legal_or_not : (tiles : List ℕ) (orders : List (List ℕ)) (p q : Unit) → AreLegal touches shape tiles orders → AreFirstReversed touches shape tiles orders p q → ⊥
-  legal_or_not tiles orders p q legal found =
-      let pair = found.first.there in
-      pair.reversed (legal found.earlier found.later pair.ascend pair.inside pair.conflict)
-
-  moved_legal : (of : ℕ) (order : List ℕ) (plan a : Planned) (p q : Unit) → a ≡ reordered of order plan → AreLegal touches shape a.tiles a.orders
-      → AreFirstReversed touches shape plan.tiles (slice_set plan.orders of order) p q → ⊥
-  moved_legal of order plan a p q is legal found =
-      legal_or_not plan.tiles (slice_set plan.orders of order) p q (subst (λ (b : Planned). AreLegal touches shape b.tiles b.orders) is legal) found
-
-  one_reorder : (number of : ℕ) (order : List ℕ) (plan : Planned) (r s : Result ⊤ PlanFault) (a b : Planned)
-      → Reorders touches shape number of order plan r a → Reorders touches shape number of order plan s b → Agree r s ((r ≡ s) × (a ≡ b))
-  one_reorder number of order plan (Err Memory) s a b x y = inl refl
-  one_reorder number of order plan (Ok tt') (Err Memory) a b x y = inr (inl refl)
-  one_reorder number of order plan (Err (Illegal n p q)) (Err Memory) a b x y = inr (inl refl)
-  one_reorder number of order plan (Err (Later n)) s a b x y = absurd x
-  one_reorder number of order plan (Ok d) (Err (Later n)) a b x y = absurd y
-  one_reorder number of order plan (Err (Illegal m p q)) (Err (Later n)) a b x y = absurd y
-  one_reorder number of order plan (Ok d) (Ok e) a b x y = inr (inr (refl, x.0 ∙ sym y.0))
-  one_reorder number of order plan (Ok d) (Err (Illegal n p q)) a b x y = absurd (moved_legal of order plan a p q x.0 x.1 y.2)
-  one_reorder number of order plan (Err (Illegal n p q)) (Ok d) a b x y = absurd (moved_legal of order plan b p q y.0 y.1 x.2)
-  one_reorder number of order plan (Err (Illegal m p q)) (Err (Illegal n u v)) a b x y =
-      let units = one_pair _ shape p q u v x.2 y.2 in
-      let first = units.0 in
-      let second = units.1 in
-      let step : m ≡ n = x.1 ∙ sym y.1 in
-      inr (inr (cc, x.0 ∙ sym y.0))
-
-  -- numbers that grow from a seed don't fall along two units
-  grown_or_fallen : (count first : ℕ) (seed : List ℕ) (parts : ℕ) (tiles : List ℕ) (p q : ℕ) → IsGrown (touches_at touches) count first seed parts tiles → q < count
-      → Falls (touches_at touches) first seed p q → ⊥
-  grown_or_fallen count first seed parts tiles p q grown within pair =
-      let behind = pair.behind in
-      let ascend = pair.ascend in
-      let inside = pair.inside in
-      let falls = pair.falls in
-      let earlier : first + (p - first) ≡ p = omega arith in
-      let later : first + (q - first) ≡ q = omega arith in
-      let of_earlier : get_or tiles p 0 ≡ seed_number first seed p = rw earlier at (grown.growth.seeded (p - first) (omega arith)) in
-      let of_later : get_or tiles q 0 ≡ seed_number first seed q = rw later at (grown.growth.seeded (q - first) (omega arith)) in
-      omega (arith, grown.growth.rises p q (omega arith) ascend within pair.conflict)
-
-  module _ (spread : OneSpread) (growth : OneGrowth) (of step : ℕ) (seed : Seed) (parts : ℕ) (order : List ℕ) where
-    one_seed : (kind : Seed) (a b : List ℕ) → IsSeedOf touches shape of order kind parts a → IsSeedOf touches shape of order kind parts b → a ≡ b
-    one_seed Block a b x y = x ∙ sym y
-    one_seed Spread a b x y = spread (view_of touches shape of order parts) a b x y
-    one_seed (Plug number) a b x y = absurd x
-
-    one_grown : (a b : List ℕ) → AreGrown touches shape of step seed parts order a → AreGrown touches shape of step seed parts order b → a ≡ b
-    one_grown a b x y =
-        let same = one_seed seed x.list y.list x.seeded y.seeded in
-        growth _ _ _ _ _ a b (subst (λ (list : List ℕ). IsGrown (touches_at touches) (units_in shape) (first_unit shape.loops step of) (by_iteration order list) parts a) same x.grown) y.grown
-
-    one_fall : (p q u v : Unit) → AreFirstFallen touches shape of step seed parts order p q → AreFirstFallen touches shape of step seed parts order u v → (p ≡ u) × (q ≡ v)
-    one_fall p q u v x y =
-        let same = one_seed seed x.list y.list x.seeded y.seeded in
-        one_pair _ shape p q u v (subst (λ (list : List ℕ). AreFirst (Falls (touches_at touches) (first_unit shape.loops step of) (by_iteration order list)) shape p q) same x.first) y.first
-
-    falls_or_grows : (tiles : List ℕ) (p q : Unit) → AreGrown touches shape of step seed parts order tiles → AreFirstFallen touches shape of step seed parts order p q → ⊥
-    falls_or_grows tiles p q x y =
-        let same = one_seed seed y.list x.list y.seeded x.seeded in
-        let pair = subst (λ (list : List ℕ). Falls (touches_at touches) (first_unit shape.loops step of) (by_iteration order list) y.first.earlier y.first.later) same y.first.first.there in
-        grown_or_fallen _ _ _ parts tiles y.first.earlier y.first.later x.grown (slice_get_within (units_of shape.steps shape.loops) y.first.later q y.first.later_is) pair
-
-  one_tile : OneSpread → OneGrowth → (number of step : ℕ) (seed : Seed) (parts : ℕ) (plan : Planned) (r s : Result ⊤ PlanFault) (a b : Planned)
-      → TakesTile touches shape number of step seed parts plan r a → TakesTile touches shape number of step seed parts plan s b → Agree r s ((r ≡ s) × (a ≡ b))
-  one_tile spread growth number of step seed parts plan (Err Memory) s a b x y = inl refl
-  one_tile spread growth number of step seed parts plan (Ok d) (Err Memory) a b x y = inr (inl refl)
-  one_tile spread growth number of step seed parts plan (Err (Illegal n p q)) (Err Memory) a b x y = inr (inl refl)
-  one_tile spread growth number of step seed parts plan (Err (Later n)) s a b x y = absurd x.0
-  one_tile spread growth number of step seed parts plan (Ok d) (Err (Later n)) a b x y = absurd y.0
-  one_tile spread growth number of step seed parts plan (Err (Illegal m p q)) (Err (Later n)) a b x y = absurd y.0
-  one_tile spread growth number of step seed parts plan (Ok d) (Ok e) a b x y =
-      let tiles = one_grown spread growth of step seed parts (order_of plan.orders of) a.tiles b.tiles x.0 y.0 in
-      inr (inr (refl, x.1 ∙ (ap (λ (list : List ℕ). tiled list parts plan) tiles ∙ sym y.1)))
-  one_tile spread growth number of step seed parts plan (Ok d) (Err (Illegal n p q)) a b x y =
-      absurd (falls_or_grows spread growth of step seed parts (order_of plan.orders of) a.tiles p q x.0 y.0.1)
-  one_tile spread growth number of step seed parts plan (Err (Illegal n p q)) (Ok d) a b x y =
-      absurd (falls_or_grows spread growth of step seed parts (order_of plan.orders of) b.tiles p q y.0 x.0.1)
-  one_tile spread growth number of step seed parts plan (Err (Illegal m p q)) (Err (Illegal n u v)) a b x y =
-      let units = one_fall spread growth of step seed parts (order_of plan.orders of) p q u v x.0.1 y.0.1 in
-      let first = units.0 in
-      let second = units.1 in
-      let same : m ≡ n = x.0.0 ∙ sym y.0.0 in
-      inr (inr (cc, x.1 ∙ sym y.1))
-
-  module _ (one : OneOrder) (spread : OneSpread) (growth : OneGrowth) where
+  module _ (one : OneOrder) (spread : OneSpread) (growth : OneGrowth) (by_loop : OneCpacking) (by_tiles : OneTilepacking) where
     one_order_taken : (number : ℕ) (plan : Planned) (of : ℕ) (key : ℕ → List ℕ) (r s : Result ⊤ PlanFault) (a b : Planned)
         → TakesOrder touches shape number plan r a of key → TakesOrder touches shape number plan s b of key → Agree r s ((r ≡ s) × (a ≡ b))
     one_order_taken number plan of key r s a b (inl x) y = inl x.0
     one_order_taken number plan of key r s a b (inr x) (inl y) = inr (inl y.0)
     one_order_taken number plan of key r s a b (inr (o, new, x)) (inr (o', new', y)) =
         let same = one key (order_of plan.orders of) o o' new.perm new'.perm new.ordered new'.ordered in
-        one_reorder number of o' plan r s a b (subst (λ (order : List ℕ). Reorders touches shape number of order plan r a) same x) y
-
-    later_taken : (number : ℕ) (plan : Planned) (r s : Result ⊤ PlanFault) (a b : Planned)
-        → TakesLater touches shape number plan r a → TakesLater touches shape number plan s b → Agree r s ((r ≡ s) × (a ≡ b))
-    later_taken number plan r s a b x y = inr (inr (x.0 ∙ sym y.0, x.1 ∙ sym y.1))
+        one_reorder touches shape number of o' plan r s a b (subst (λ (order : List ℕ). Reorders touches shape number of order plan r a) same x) y
 
     one_taken : (number : ℕ) (plan : Planned) (step : Step) (r s : Result ⊤ PlanFault) (a b : Planned)
         → Takes touches shape number plan r a step → Takes touches shape number plan s b step → Agree r s ((r ≡ s) × (a ≡ b))
-    one_taken number plan (Cpack arrays by) = later_taken number plan
+    one_taken number plan (Cpack arrays by) =
+        one_pack touches shape arrays (λ array. IsCpacking touches shape by (order_of plan.orders by) (array ∷ arrays) plan.packs) (λ n a b. by_loop touches shape by (order_of plan.orders by) (n ∷ arrays) plan.packs a b) plan
     one_taken number plan (LexGroup of by) = one_order_taken number plan of (λ position. group_key (packed_places touches shape plan of by position))
     one_taken number plan (LexSort of by) = one_order_taken number plan of (λ position. sort_key (packed_places touches shape plan of by position))
     one_taken number plan (Bucket of by size) = one_order_taken number plan of (λ position. bucket_key size (packed_places touches shape plan of by position))
-    one_taken number plan (Tile of at seed parts) = one_tile spread growth number of at seed parts plan
-    one_taken number plan (TilePack arrays) = later_taken number plan
+    one_taken number plan (Tile of at seed parts) = one_tile touches shape spread growth number of at seed parts plan
+    one_taken number plan (TilePack arrays) =
+        one_pack touches shape arrays (λ array. IsTilepacking touches shape (places_of plan) (array ∷ arrays) plan.packs) (λ n a b. by_tiles touches shape (places_of plan) (n ∷ arrays) plan.packs a b) plan
 
     one_all : (steps : List Step) (number : ℕ) (plan : Planned) (a b : Result Planned PlanFault) → TakesAll touches shape number steps plan a → TakesAll touches shape number steps plan b
         → Agree a b (a ≡ b)

@@ -1,3 +1,4 @@
+pub mod Packed
 pub mod Planned
 pub mod Seeded
 pub mod Taken

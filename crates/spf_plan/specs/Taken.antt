@@ -18,11 +18,13 @@ use Rattle.spf_layers.specs.Groups.{Group}
 use Rattle.spf_layers.specs.Legality.{IsFirstPair, IsReversed}
 use Rattle.spf_group.specs.Keys.{bucket_key, group_key, places_at, sort_key}
 use Rattle.spf_group.specs.Ordered.{IsOrderedBy}
+use Rattle.spf_pack.specs.Packs.{IsCpacking, IsTilepacking}
 use Rattle.spf_grow.specs.Growth.{Falls, IsGrown, first_unit}
 use Rattle.spf_plan.specs.Planned.{AreLegal, Planned, by_iteration, pack_of, reordered, source_plan, tiled, units_in}
+use Rattle.spf_plan.specs.Packed.{IsPacked, places_of}
 use Rattle.spf_plan.specs.Seeded.{IsSeedOf}
 use Rattle.spf_plan.specs.declared.plan_fault.PlanFault.{PlanFault}
-use Rattle.spf_plan.specs.declared.plan_fault.PlanFault.TheVariants.{Illegal, Later, Memory}
+use Rattle.spf_plan.specs.declared.plan_fault.PlanFault.TheVariants.{Illegal, Memory}
 
 -- the layers are those of the touches, and the touches those of the shape
 pub record BelongTogether (layers : List (List Group)) (touches : List (List Touch)) (shape : Shape) : Type 0 where
@@ -55,7 +57,6 @@ module _ (touches : List (List Touch)) (shape : Shape) (number : ℕ) where
   abbrev pub Reorders : ℕ → List ℕ → Planned → Result ⊤ PlanFault → Planned → Type 0
   Reorders of order plan (Ok done) after = (after ≡ reordered of order plan) × AreLegal touches shape after.tiles after.orders
   Reorders of order plan (Err (Illegal step p q)) after = (after ≡ plan) × (step ≡ number) × AreFirstReversed touches shape plan.tiles (slice_set plan.orders of order) p q
-  Reorders of order plan (Err (Later step)) after = ⊥
   Reorders of order plan (Err Memory) after = after ≡ plan
 
 -- the loop, the step, the seed and the number of parts of a tiling, and the order of the loop
@@ -75,7 +76,6 @@ module _ (touches : List (List Touch)) (shape : Shape) (of step : ℕ) (seed : S
   -- why the step with this number gives no tiles; out of memory is free
   abbrev pub IsTileFault : ℕ → PlanFault → Type 0
   IsTileFault number (Illegal n p q) = (n ≡ number) × AreFirstFallen p q
-  IsTileFault number (Later n) = ⊥
   IsTileFault number Memory = ⊤
 
 module _ (touches : List (List Touch)) (shape : Shape) (number : ℕ) where
@@ -83,6 +83,12 @@ module _ (touches : List (List Touch)) (shape : Shape) (number : ℕ) where
   abbrev pub TakesTile : ℕ → ℕ → Seed → ℕ → Planned → Result ⊤ PlanFault → Planned → Type 0
   TakesTile of step seed parts plan (Ok done) after = AreGrown touches shape of step seed parts (order_of plan.orders of) after.tiles × (after ≡ tiled after.tiles parts plan)
   TakesTile of step seed parts plan (Err fault) after = IsTileFault touches shape of step seed parts (order_of plan.orders of) number fault × (after ≡ plan)
+
+-- the plan with the listed arrays packed anew, and for want of memory the plan as before
+abbrev pub TakesPacks : List ℕ → (ℕ → List ℕ → Type 0) → Planned → Result ⊤ PlanFault → Planned → Type 0
+TakesPacks arrays IsPacking plan (Ok done) after = IsPacked arrays IsPacking plan after
+TakesPacks arrays IsPacking plan (Err (Illegal step p q)) after = ⊥
+TakesPacks arrays IsPacking plan (Err Memory) after = after ≡ plan
 
 -- the list is the stable order by these keys on an old order
 pub record IsNewOrder (key : ℕ → List ℕ) (old new : List ℕ) : Type 0 where
@@ -100,18 +106,14 @@ module _ (touches : List (List Touch)) (shape : Shape) (number : ℕ) (plan : Pl
       ((result ≡ Err Memory) × (after ≡ plan))
       ⊎ ((order : List ℕ) × IsNewOrder key (order_of plan.orders of) order × Reorders touches shape number of order plan result after)
 
-  -- the step is of a kind that isn't taken so far
-  abbrev pub TakesLater : Type 0
-  TakesLater = (result ≡ Err (Later number)) × (after ≡ plan)
-
   -- what the step with this number answers, and the plan after it
   abbrev pub Takes : Step → Type 0
-  Takes (Cpack arrays by) = TakesLater
+  Takes (Cpack arrays by) = TakesPacks arrays (λ array. IsCpacking touches shape by (order_of plan.orders by) (array ∷ arrays) plan.packs) plan result after
   Takes (LexGroup of by) = TakesOrder of (λ position. group_key (packed_places touches shape plan of by position))
   Takes (LexSort of by) = TakesOrder of (λ position. sort_key (packed_places touches shape plan of by position))
   Takes (Bucket of by size) = TakesOrder of (λ position. bucket_key size (packed_places touches shape plan of by position))
   Takes (Tile of step seed parts) = TakesTile touches shape number of step seed parts plan result after
-  Takes (TilePack arrays) = TakesLater
+  Takes (TilePack arrays) = TakesPacks arrays (λ array. IsTilepacking touches shape (places_of plan) (array ∷ arrays) plan.packs) plan result after
 
 module _ (touches : List (List Touch)) (shape : Shape) where
   -- the steps from this number on are taken one after another; the first refusal is the answer

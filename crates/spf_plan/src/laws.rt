@@ -11,6 +11,7 @@ ghost use Rattle.spf_plan.specs.declared.plan_fault.PlanFault.TheVariants.{Memor
 
 use spf_group::one_order;
 use spf_grow::one_growth;
+use spf_pack::one_packing;
 use spf_seed::one_breadth_first_order;
 
 /// Law: the steps have one answer, but for out of memory.
@@ -20,5 +21,6 @@ pub fn one_plan_answer()
 {
     one_order();
     one_growth();
+    one_packing();
     one_breadth_first_order();
 }

@@ -12,9 +12,6 @@ pub enum PlanFault {
     /// least second and then the greatest first.
     #[error("illegal")]
     Illegal { step: u32, p: Unit, q: Unit },
-    /// The step is of a kind that isn't taken so far.
-    #[error("later")]
-    Later { step: u32 },
     #[error("out of memory")]
     Memory,
 }

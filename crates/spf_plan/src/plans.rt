@@ -4,13 +4,15 @@ ghost use Rattle.std.specs.Prelude.{◌≡◌, ◌<◌, ℕ, true, IfOk, OnErr, 
 ghost use Rattle.spf_perm.specs.Perm.{IsPerm};
 ghost use Rattle.spf_touch.specs.Frame.{IsTouched};
 ghost use Rattle.spf_touch.specs.Repeated.{touches_at};
-ghost use Rattle.spf_script.specs.Resolved.{IsStepFor, is_tiling};
+ghost use Rattle.spf_script.specs.Resolved.{AreAlike, IsStepFor, is_tiling};
 ghost use Rattle.spf_script.specs.declared.resolved.Step.TheVariants.{Tile};
 ghost use Rattle.spf_space.specs.Layout.{cells_in, iterations};
 ghost use Rattle.spf_space.specs.Places.{order_of};
+ghost use Rattle.spf_plan.specs.Packed.{IsOrderFor, IsPackingBy, places_of};
 ghost use Rattle.spf_plan.specs.Planned.{IsPlanOf, pack_of, source_plan};
-ghost use Rattle.spf_plan.specs.Taken.{BelongTogether, Reorders, Takes, TakesTile};
+ghost use Rattle.spf_plan.specs.Taken.{BelongTogether, Reorders, Takes, TakesPacks, TakesTile};
 
+use crate::packing::{TouchOrder, mark, next_packs};
 use crate::plan_fault::PlanFault;
 use crate::reorder::try_order;
 use crate::source::{own_places, source_orders};
@@ -85,7 +87,9 @@ impl Plan {
     /// Takes the step of this number, counted from 1. After a refusal, and for want of memory, the plan is as before. An order
     /// costs a sort of the loop's positions, a copy of its old order, and a pass over the touches of all units. A tiling costs
     /// its seed, which for `spread` sorts the touches of the loop, and two passes over the touches of all units; a seed that
-    /// sees 2^32 elements or more is told as want of memory.
+    /// sees 2^32 elements or more is told as want of memory. A packing costs, for each listed array, a pass over the touches of
+    /// the loop or of all units at a cost that is linear in the listed arrays, and for all units a sort of them; the packings of
+    /// the other arrays are copied.
     pub fn step(
         &mut self,
         alloc: Global,
@@ -136,7 +140,14 @@ impl Plan {
                 };
                 self.tile(alloc, touches, shape, number, tiling)
             }
-            Step::Cpack { .. } | Step::TilePack { .. } => Err(PlanFault::Later { step: number }),
+            Step::Cpack { arrays, by } => {
+                let order = TouchOrder::Loop { by: *by };
+                self.pack_arrays(alloc, touches, shape, order, arrays.as_slice())
+            }
+            Step::TilePack { arrays } => {
+                let order = TouchOrder::Tiles;
+                self.pack_arrays(alloc, touches, shape, order, arrays.as_slice())
+            }
         }
     }
 
@@ -193,6 +204,36 @@ impl Plan {
             }
             Err(fault) => Err(fault),
         }
+    }
+
+    /// Packs the listed arrays and marks them as moved.
+    fn pack_arrays(
+        &mut self,
+        alloc: Global,
+        touches: &Touches,
+        shape: &Shape,
+        order: TouchOrder,
+        arrays: &[u32],
+    ) -> Result<(), PlanFault>
+        requires lists { length touches.now ≡ iterations shape.now.loops }
+        requires plan { IsPlanOf touches.now shape.now self.old }
+        requires order { IsOrderFor shape.now order }
+        requires alike { AreAlike shape.now arrays.now }
+        ensures packs { TakesPacks arrays.now (IsPackingBy touches.now shape.now (places_of self.old) arrays.now self.old.packs order) self.old result self.new }
+        ensures plan { IsPlanOf touches.now shape.now self.new }
+    {
+        let packs = next_packs(
+            alloc,
+            touches,
+            shape,
+            &self.places,
+            order,
+            arrays,
+            self.packs.as_slice(),
+        )?;
+        self.packs = packs;
+        mark(&mut self.moved_arrays, arrays);
+        Ok(())
     }
 
     /// The new position of each source position of a loop.

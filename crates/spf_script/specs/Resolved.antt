@@ -1,5 +1,5 @@
 -- What resolving a script for a shape answers.
-use Rattle.std.specs.Prelude.{ℕ, ◌≡◌, ◌+◌, ◌≤◌, ◌<◌, ⊤, Bool, true, false, List, [], ◌∷◌, map, length, None, Some, Result, Ok, Err, All, AllPairs}
+use Rattle.std.specs.Prelude.{ℕ, ◌≡◌, ◌+◌, ◌≤◌, ◌<◌, ⊤, Bool, true, false, List, [], ◌∷◌, map, length, slice_get, None, Some, Result, Ok, Err, All, AllPairs}
 use Rattle.std.specs.List.{position_or_len}
 use Rattle.std.specs.Str.{bytes_eq}
 use Rattle.spf_space.specs.declared.shape.ArrayShape.{ArrayShape}
@@ -97,6 +97,11 @@ IsSeedFor plugs Block = ⊤
 IsSeedFor plugs Spread = ⊤
 IsSeedFor plugs (Plug number) = number < plugs
 
+-- the numbers are those of arrays that have one length
+pub record AreAlike (shape : Shape) (numbers : List ℕ) : Type 0 where
+  pub count : ℕ
+  pub each : All (λ number. (array : ArrayShape) × (slice_get shape.arrays number ≡ Some array) × (array.length ≡ count)) numbers
+
 module _ (shape : Shape) (plugs : ℕ) where
   abbrev pub IsLoop : ℕ → Type 0
   IsLoop number = number < length shape.loops
@@ -106,12 +111,12 @@ module _ (shape : Shape) (plugs : ℕ) where
 
   -- the numbers of a step are such as the shape and the partitioners have
   abbrev pub IsStepFor : Step → Type 0
-  IsStepFor (Cpack arrays by) = All IsArray arrays × IsLoop by
+  IsStepFor (Cpack arrays by) = AreAlike shape arrays × IsLoop by
   IsStepFor (LexGroup of by) = IsLoop of × IsArray by
   IsStepFor (LexSort of by) = IsLoop of × IsArray by
   IsStepFor (Bucket of by size) = IsLoop of × IsArray by × (1 ≤ size)
   IsStepFor (Tile of at seed parts) = IsLoop of × (at < shape.steps) × IsSeedFor plugs seed × (1 ≤ parts) × (parts ≤ most_parts)
-  IsStepFor (TilePack arrays) = All IsArray arrays
+  IsStepFor (TilePack arrays) = AreAlike shape arrays
 
 -- whether the step is a tiling
 abbrev pub is_tiling : Step → Bool

@@ -30,7 +30,7 @@ use Rattle.spf_input.specs.declared.fault.InputFault.TheVariants as input_is
 use Rattle.spf_input.proofs.OneBundle.{one_whole_bundle}
 use Rattle.spf_input.proofs.Stages.{one_then}
 use Rattle.spf_top.specs.declared.outcome.Outcome.{Outcome}
-use Rattle.spf_top.specs.declared.outcome.Outcome.TheVariants.{Done, Memory, Usage, ReadFault, WriteFault, Text, Kernel, Input, Range, Script, Illegal, Limit, Later}
+use Rattle.spf_top.specs.declared.outcome.Outcome.TheVariants.{Done, Memory, Usage, ReadFault, WriteFault, Text, Kernel, Input, Range, Script, Illegal, Limit}
 use Rattle.spf_top.specs.declared.outcome.What.TheVariants.{Bytes}
 use Rattle.spf_top.specs.Outcome.{plan_refused, refused, script_refused, shape_refused, walk_refused}
 use Rattle.spf_top.specs.Words.{AsksFor, IsAccepted, IsRefusedAt}
@@ -187,7 +187,6 @@ module _ (laws : Laws) (asked : Asked) (words : List (List ℕ)) (bytes : List �
   by_outcome (Script step rule) told input read write asks text wrote not_read not_write = let e = refused_for_memory laws asked bytes text (Script step rule) wrote input in absurd cc
   by_outcome (Illegal step p q) told input read write asks text wrote not_read not_write = let e = refused_for_memory laws asked bytes text (Illegal step p q) wrote input in absurd cc
   by_outcome (Limit what count) told input read write asks text wrote not_read not_write = let e = refused_for_memory laws asked bytes text (Limit what count) wrote input in absurd cc
-  by_outcome Later told input read write asks text wrote not_read not_write = let e = refused_for_memory laws asked bytes text Later wrote input in absurd cc
 
 pub completes : Laws → (asked : Asked) (words : List (List ℕ)) (held before after : Option (List ℕ)) (read_rose write_rose : Type 0) (outcome : Outcome) → AnswersWords words outcome → IfSome held (λ bytes. (asked : Asked) → AsksFor words asked → AnswersInput asked bytes before after outcome)
     → (outcome ≡ ReadFault → read_rose) → (outcome ≡ WriteFault → write_rose) → AsksFor words asked
@@ -218,7 +217,6 @@ refusal_answers asked bytes before after (Range loop_no iteration site value) ow
 refusal_answers asked bytes before after (Script step rule) own refused = refused
 refusal_answers asked bytes before after (Illegal step p q) own refused = refused
 refusal_answers asked bytes before after (Limit what count) own refused = refused
-refusal_answers asked bytes before after Later own refused = refused
 
 -- and the words that asked for it are accepted
 pub words_accepted : (words : List (List ℕ)) (refusal : Outcome) → IsOfBytes refusal → IsAccepted words → AnswersWords words refusal
@@ -234,7 +232,6 @@ words_accepted words (Range loop_no iteration site value) own accepted = accepte
 words_accepted words (Script step rule) own accepted = accepted
 words_accepted words (Illegal step p q) own accepted = accepted
 words_accepted words (Limit what count) own accepted = accepted
-words_accepted words Later own accepted = accepted
 
 -- a source from which one byte too many was taken held too many
 pub too_many : (words : List (List ℕ)) (held rest : Option (List ℕ)) (front : List ℕ) → length front ≡ 67108865 → Takes held front rest → IfSome held (λ bytes. (asked : Asked) → AsksFor words asked → answers asked bytes (Err (Limit Bytes 67108865)))

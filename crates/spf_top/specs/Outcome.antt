@@ -17,7 +17,7 @@ use Rattle.spf_lex.specs.declared.text_kind.TextKind.TheVariants as kind
 use Rattle.spf_input.specs.declared.fault.InputFault.{InputFault}
 use Rattle.spf_input.specs.declared.fault.InputFault.TheVariants as input
 use Rattle.spf_top.specs.declared.outcome.Outcome.{Outcome}
-use Rattle.spf_top.specs.declared.outcome.Outcome.TheVariants.{Done, Memory, Usage, ReadFault, WriteFault, Text, Kernel, Input, Range, Script, Illegal, Limit, Later}
+use Rattle.spf_top.specs.declared.outcome.Outcome.TheVariants.{Done, Memory, Usage, ReadFault, WriteFault, Text, Kernel, Input, Range, Script, Illegal, Limit}
 use Rattle.spf_top.specs.declared.outcome.What.{What}
 use Rattle.spf_top.specs.declared.outcome.What.TheVariants.{Bytes, Units, Visits, Tiles}
 
@@ -48,7 +48,6 @@ script_refused script.Memory = Memory
 -- the outcome of a script of which a step is refused
 abbrev pub plan_refused : PlanFault → Outcome
 plan_refused (plan.Illegal step p q) = Illegal step p q
-plan_refused (plan.Later step) = Later
 plan_refused plan.Memory = Memory
 
 abbrev pub status_of : Outcome → ℕ
@@ -64,7 +63,6 @@ status_of (Range loop_no iteration site value) = 8
 status_of (Script step rule) = 9
 status_of (Illegal step p q) = 10
 status_of (Limit what count) = 12
-status_of Later = 14
 
 -- line, colon, column
 abbrev pub place_text : Place → List ℕ
@@ -108,4 +106,3 @@ line_of loops (Range loop_no iteration site value) =
 line_of loops (Script step rule) = codes "script: step " ++ (decimal step ++ (codes " rule " ++ (decimal rule ++ codes "\n")))
 line_of loops (Illegal step p q) = codes "illegal: step " ++ (decimal step ++ (codes " reverses " ++ (unit_text loops p ++ (codes " and " ++ (unit_text loops q ++ codes "\n")))))
 line_of loops (Limit what count) = codes "limit: " ++ (what_text what ++ (codes " " ++ (decimal count ++ codes "\n")))
-line_of loops Later = codes "later\n"

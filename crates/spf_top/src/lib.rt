@@ -6,7 +6,7 @@
 //! tiles come before which. What is answered for the bytes is a chain of stages, one behind the other: few enough bytes, a
 //! bundle whose kernel and input keep their rules, few enough units, a walk on which nothing is refused, a script that keeps
 //! its rules, steps each of which is legal, and then what the command does with the plan. The first that refuses is the
-//! outcome, so that the commands refuse the same bundles in the same words. A script with a packing is for later.
+//! outcome, so that the commands refuse the same bundles in the same words.
 //!
 //! The crate stands on spf_input for whole bundles, on spf_store, spf_access and spf_source for shapes, the walk and the
 //! loops, on spf_script, spf_layers, spf_legal and spf_plan for plans and for running units as they say, on spf_tiles and

@@ -80,8 +80,6 @@ pub enum Outcome {
         what: What,
         count: u64,
     },
-    /// The script has a step that isn't carried out so far.
-    Later,
 }
 
 /// The outcome of a text that is no bundle.
@@ -158,7 +156,6 @@ pub fn plan_refusal(fault: PlanFault) -> Outcome
 {
     match fault {
         PlanFault::Illegal { step, p, q } => Outcome::Illegal { step, p, q },
-        PlanFault::Later { .. } => Outcome::Later,
         PlanFault::Memory => Outcome::Memory,
     }
 }
@@ -180,6 +177,5 @@ pub fn status(outcome: &Outcome) -> u8
         Outcome::Script { .. } => 9,
         Outcome::Illegal { .. } => 10,
         Outcome::Limit { .. } => 12,
-        Outcome::Later => 14,
     }
 }

@@ -241,6 +241,5 @@ pub fn report<E: Sink>(err: &mut E, outcome: &Outcome, shape: &Shape)
         Outcome::Script { step, rule } => report_script(err, *step, *rule),
         Outcome::Illegal { step, p, q } => report_illegal(err, *step, shape, p, q),
         Outcome::Limit { what, count } => report_limit(err, *what, *count),
-        Outcome::Later => write_pieces(err, &[b"later\n".as_slice()]),
     }
 }
