@@ -14,11 +14,8 @@ added_first : (b : Bool) (n : ℕ) → cond b 1 0 + n ≡ more b n
 added_first true n = omega arith
 added_first false n = omega arith
 
-kept : {X : Type 0} (n : ℕ) (x : X) (xs : List X) → take (1 + n) (x ∷ xs) ≡ x ∷ take n xs
-kept n x xs = grind (arith, common_steps)
-
 kept_or_not : {X : Type 0} (b : Bool) (n : ℕ) (x : X) (xs : List X) → take (cond b (1 + n) 0) (x ∷ xs) ≡ cond b (x ∷ take n xs) []
-kept_or_not true n x xs = kept n x xs
+kept_or_not true n x xs = grind (arith, common_steps)
 kept_or_not false n x xs = refl
 
 -- the longest front that passes, from the first element on

@@ -1,5 +1,5 @@
 -- Where no rule is broken, each index expression in the tree that a kernel means is bounded, and its loops are few.
-use Rattle.spf_kernel.proofs.Common.{Sort, Factor, ℕ, ◌+◌, ◌*◌, ◌^◌, ◌≤◌, Bool, true, false, List, [], ◌∷◌, ◌++◌, length, fold, Option, None, Some, is_some, ap, subst, ℤ, pos, ◌+ℤ◌, unsigned_abs, arith, ints, if◌then◌else◌, ⊤, AllByRecursion, split_each, length-append, Term, Term', roll-Term, out-roll-Term, Row_of-Mono, end_of-Mono, more_of-Mono, items-the_row-Mono, items_shown-the_row-Mono-0, Mono, Token, Spot, Scope, RawIx, RawIx', Row_of-RawStep, end_of-RawStep, more_of-RawStep, items-the_row-RawStep, items_shown-the_row-RawStep-1, RawStep, RawMono, Number', RawMono-Number-1-None', RawMono-Number-1-Some', RawAtom, RawAtom', RawAtom-at-None', RawAtom-at-Some', end_of-RawIx, more_of-RawIx, Fact, text_of, variables_in, Names, ix_notes, steps_notes, mono_notes, atom_notes, subscript_notes, excess_notes, expression_notes, ix_monomials, mono_monomials, atom_monomials, monomial_limit, number_notes, alone_of, constant_of, variable_of, table_of, data_array_of, is_data_array, bare_atom, bare_factor, term_of, more_monos, monos_of, atom_of, factor_at, ◌<◌, map, flat_map, Ok, refl, sym, length-map, All-from_recursion, RawLoop, RawKernel, Tree, Tokenized, texts, facts_of, names_of, note, Variable, Declared, bound_notes, head_notes, item_notes, decl_notes, loop_of, tree_of, IsUnbroken, is_data, is_loop, nothing, wrap, Atom, out-Term, out-RawIx, steps_monomials, loop_notes, kernel_notes, signed, IsVerdict}
+use Rattle.spf_kernel.proofs.Common.{Sort, Factor, ℕ, ◌+◌, ◌*◌, ◌^◌, ◌≤◌, Bool, true, false, List, [], ◌∷◌, ◌++◌, length, fold, Option, None, Some, is_some, ap, subst, ℤ, pos, ◌+ℤ◌, unsigned_abs, arith, ints, if◌then◌else◌, ⊤, AllByRecursion, split_each, length-append, Term, Term', roll-Term, out-roll-Term, Row_of-Mono, end_of-Mono, more_of-Mono, items-the_row-Mono, items_shown-the_row-Mono-0, Mono, Token, Spot, Scope, RawIx, RawIx', Row_of-RawStep, end_of-RawStep, more_of-RawStep, items-the_row-RawStep, items_shown-the_row-RawStep-1, RawStep, RawMono, Number', RawMono-Number-1-None', RawMono-Number-1-Some', RawAtom, RawAtom', RawAtom-at-None', RawAtom-at-Some', end_of-RawIx, more_of-RawIx, Fact, text_of, variables_in, Names, ix_notes, steps_notes, mono_notes, atom_notes, subscript_notes, excess_notes, expression_notes, ix_monomials, mono_monomials, atom_monomials, monomial_limit, number_notes, alone_of, constant_of, variable_of, table_of, data_array_of, is_data_array, bare_atom, bare_factor, term_of, more_monos, monos_of, atom_of, factor_at, ◌<◌, map, flat_map, Ok, refl, sym, length-map, All-from_recursion, RawLoop, RawKernel, Tree, Tokenized, texts, facts_of, names_of, note, Variable, Declared, bound_notes, head_notes, item_notes, decl_notes, loop_of, tree_of, IsUnbroken, is_data, is_loop, is_table, nothing, wrap, Atom, out-Term, out-RawIx, steps_monomials, loop_notes, kernel_notes, signed, IsVerdict}
 use Rattle.spf_term.specs.Bounded.{IsWithin, IsBounded, monomials, sum_monomials, HasSmallNumbers, HaveSmallNumbers, AtomHasSmallNumbers}
 use Rattle.spf_term.specs.Bounded as term_bounds
 use Rattle.spf_kernel.specs.Bounded.{IsBoundedFactor, bounded, IsBoundedLoop, IsBoundedTree}
@@ -8,7 +8,7 @@ use Rattle.spf_kernel.proofs.NoteEquations.{few_monomials, number_within}
 use Rattle.spf_kernel.proofs.PrintedConstants.{signed_size, wrap_no_larger}
 use Rattle.spf_kernel.proofs.BodySites.{loop_within}
 use Rattle.spf_kernel.proofs.Kept.{AreKept, all_kept, loop_kept}
-use Rattle.spf_kernel.proofs.NamedLists.{arrays_found}
+use Rattle.spf_kernel.proofs.NamedLists.{arrays_found, tables_found}
 use Rattle.spf_kernel.proofs.NoteCounts.{notes_that, both, counted, inside_last, same_facts}
 use Rattle.spf_kernel.proofs.Unbroken.{few, few_loops, how_many, sound}
 
@@ -208,6 +208,7 @@ module _ (texts : List (List ℕ)) (x : RawKernel) (unbroken : IsUnbroken texts 
         loops = All-from_recursion IsBoundedLoop (map (loop_of texts names) x.loops) (loops_bounded texts facts x.loops room all.loops);
         few = loops_are_few;
         arrays = omega (arith, (few facts (sound texts (kernel_notes x) unbroken)).arrays, how_many is_data facts, ap length (arrays_found texts names x));
+        tables = omega (arith, (few facts (sound texts (kernel_notes x) unbroken)).arrays, how_many is_table facts, ap length (tables_found texts names x));
       }
 
 -- what a kernel of few notes means, where it breaks no rule

@@ -4,7 +4,7 @@ pub use Rattle.spf_base.specs.Word.{IsName}
 unfoldable pub use Rattle.spf_base.specs.Wrap.{wrap}
 pub use Rattle.spf_kernel.specs.check.Before.{IsBelow}
 unfoldable pub use Rattle.spf_kernel.specs.check.Before.{before_of, counts_of, once}
-pub use Rattle.spf_kernel.specs.check.Checked.{Checked, IsFirst, Precedes, first_broken}
+pub use Rattle.spf_kernel.specs.check.Checked.{Checked, IsFirst, Leads, first_broken}
 unfoldable pub use Rattle.spf_kernel.specs.check.Checked.{least_rule}
 pub use Rattle.spf_kernel.specs.Facts.{Fact, fact_of, fact_with, facts_of, text_of, variables_in}
 pub use Rattle.spf_kernel.specs.Kept.{KeepFactors, KeepProds, KeepsAssign, KeepsCond, KeepsDecl, KeepsFactor, KeepsGuard, KeepsItem, KeepsLoop, KeepsPart, KeepsValue, Property}

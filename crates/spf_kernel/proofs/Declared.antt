@@ -1,13 +1,11 @@
 -- Which names were declared, read off the sets of them.
-use Rattle.spf_kernel.proofs.Common.{◌≡◌, ℕ, Bool, true, false, List, [], ◌∷◌, ◌++◌, ◌||◌, fold, refl, ap, sym, ◌∙◌, list_any-append, bytes_eq-Decides, list_any, bytes_eq, insert_key, Before, Fact, is_param, is_table, is_data, is_loop, declares, names_that, cond, once, before_of}
+use Rattle.spf_kernel.proofs.Common.{◌≡◌, ℕ, Bool, true, false, List, [], ◌∷◌, ◌++◌, ◌||◌, fold, refl, ap, sym, ◌∙◌, arith, list_any-append, bytes_eq-Decides, list_any, bytes_eq, insert_key, Before, Fact, is_param, is_table, is_data, is_loop, declares, names_that, cond, once, before_of}
 
 pub or_false : (b : Bool) → b ≡ b || false
-or_false true = refl
-or_false false = refl
+or_false b = grind arith
 
 or_assoc : (a b c : Bool) → (a || b) || c ≡ a || (b || c)
-or_assoc true b c = refl
-or_assoc false b c = refl
+or_assoc a b c = grind arith
 
 module _ (name : List ℕ) where
   -- a name that is there already brings none

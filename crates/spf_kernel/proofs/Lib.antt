@@ -24,6 +24,7 @@ pub mod PrintedConstants
 pub mod PrintedParses
 pub mod SignedNumbers
 pub mod SiteSums
+pub mod Taking
 pub mod TermEquations
 pub mod TokenLeaves
 pub mod Unbroken

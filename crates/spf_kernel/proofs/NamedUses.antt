@@ -13,8 +13,7 @@ either false b true d left right e = refl
 either false b false d left right e = right e
 
 both : (a b c : Bool) → (b ≡ true → c ≡ true) → a && b ≡ true → a && c ≡ true
-both true b c more e = more e
-both false b c more e = e
+both a b c more e = grind arith
 
 -- what is declared before is declared in all
 declared_more : (test : Says → Bool) (before after : List Fact) (name : List ℕ) → declares test before name ≡ true → declares test (before ++ after) name ≡ true

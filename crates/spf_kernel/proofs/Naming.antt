@@ -1,15 +1,8 @@
 -- The names of notes, told of the parts of their list.
-use Rattle.spf_kernel.proofs.Common.{◌≡◌, ℕ, zero, suc, ◌<◌, Bool, List, [], ◌∷◌, ◌++◌, length, map, flat_map, get_or, All, arith, sym, subst, common_steps, IsName, Token, Note, Says, text_of, param_note, AreNames, tokens_that, is_naming}
+use Rattle.spf_kernel.proofs.Common.{◌≡◌, ℕ, zero, suc, ◌<◌, Bool, List, [], ◌∷◌, ◌++◌, length, map, flat_map, get_or, All, All-from_recursion, recursion_from_All, split_each, arith, sym, subst, common_steps, IsName, Token, Note, Says, text_of, param_note, AreNames, tokens_that, is_naming}
 
-module _ {X : Type 0} (P : X → Type 0) where
-  all_left : (xs ys : List X) → All P (xs ++ ys) → All P xs
-  all_left [] ys h k d l = absurd (omega arith)
-  all_left (x ∷ xs) ys h zero d l = h zero d (omega arith)
-  all_left (x ∷ xs) ys h (suc k) d l = all_left xs ys (λ j e m. h (suc j) e (omega arith)) k d (omega arith)
-
-  all_right : (xs ys : List X) → All P (xs ++ ys) → All P ys
-  all_right [] ys h = h
-  all_right (x ∷ xs) ys h = all_right xs ys (λ j e m. h (suc j) e (omega arith))
+parts_of : {X : Type 0} (P : X → Type 0) (xs ys : List X) → All P (xs ++ ys) → All P xs × All P ys
+parts_of P xs ys h = let parts = split_each P xs ys (recursion_from_All P (xs ++ ys) h) in (All-from_recursion P xs parts.0, All-from_recursion P ys parts.1)
 
 pub tokens_append : (test : Says → Bool) (a b : List Note) → tokens_that test (a ++ b) ≡ tokens_that test a ++ tokens_that test b
 tokens_append test a b = grind (arith, common_steps)
@@ -19,10 +12,10 @@ module _ (texts : List (List ℕ)) where
   IsTextName token = IsName (text_of texts token)
 
   pub names_left : (a b : List Note) → AreNames texts (a ++ b) → AreNames texts a
-  names_left a b h = all_left IsTextName (tokens_that is_naming a) (tokens_that is_naming b) (subst (All IsTextName) (tokens_append is_naming a b) h)
+  names_left a b h = (parts_of IsTextName (tokens_that is_naming a) (tokens_that is_naming b) (subst (All IsTextName) (tokens_append is_naming a b) h)).0
 
   pub names_right : (a b : List Note) → AreNames texts (a ++ b) → AreNames texts b
-  names_right a b h = all_right IsTextName (tokens_that is_naming a) (tokens_that is_naming b) (subst (All IsTextName) (tokens_append is_naming a b) h)
+  names_right a b h = (parts_of IsTextName (tokens_that is_naming a) (tokens_that is_naming b) (subst (All IsTextName) (tokens_append is_naming a b) h)).1
 
   at : {X : Type 0} (notes : X → List Note) (xs : List X) (i : ℕ) (d : X) → i < length xs → AreNames texts (flat_map notes xs) → AreNames texts (notes (get_or xs i d))
   at notes [] i d l h = absurd (omega arith)

@@ -1,5 +1,5 @@
 -- The notes of index expressions and values, told of their parts as lists.
-use Rattle.spf_kernel.proofs.Common.{◌≡◌, ℕ, zero, suc, ◌-◌, ◌≤◌, nat_lt, Bool, true, false, List, [], ◌∷◌, ◌++◌, length, map, flat_map, drop, Option, None, Some, refl, ap, ◌∙◌, append-nil, append_assoc, sym, is_some, arith, if◌then◌else◌, ltb-false, le-ltb, map-append, Token, Note, Spot, Scope, Used, Large, Excess, RawIx, RawIx', Row_of-RawStep, end_of-RawStep, more_of-RawStep, items-the_row-RawStep, items_shown-the_row-RawStep-1, RawStep, RawAtom, RawAtom', end_of-RawIx, more_of-RawIx, RawAtom-at-None', RawAtom-at-Some', RawValue, RawValue', Row_of-RawFactor, end_of-RawFactor, more_of-RawFactor, items-the_row-RawFactor, items_shown-the_row-RawFactor-1, Row_of-RawSummand, end_of-RawSummand, more_of-RawSummand, items-the_row-RawSummand, items_shown-the_row-RawSummand-2, RawSummand, Fact, note, ix_notes, steps_notes, mono_notes, atom_notes, value_notes, facts_notes, summands_notes, fact_notes, atom_monomials, excess_notes, ix_monomials, mark, mono_monomials, number_limit, number_notes, drop_of_length-le, length-drop, out-RawIx, out-RawAtom, out-RawValue, steps_monomials}
+use Rattle.spf_kernel.proofs.Common.{◌≡◌, ℕ, zero, suc, ◌-◌, ◌≤◌, nat_lt, Bool, true, false, List, [], ◌∷◌, ◌++◌, length, map, flat_map, drop, Option, None, Some, refl, ap, ◌∙◌, append-nil, sym, is_some, arith, if◌then◌else◌, ltb-false, le-ltb, map-append, Token, Note, Spot, Scope, Used, Large, Excess, RawIx, RawIx', Row_of-RawStep, end_of-RawStep, more_of-RawStep, items-the_row-RawStep, items_shown-the_row-RawStep-1, RawStep, RawAtom, RawAtom', end_of-RawIx, more_of-RawIx, RawAtom-at-None', RawAtom-at-Some', RawValue, RawValue', Row_of-RawFactor, end_of-RawFactor, more_of-RawFactor, items-the_row-RawFactor, items_shown-the_row-RawFactor-1, Row_of-RawSummand, end_of-RawSummand, more_of-RawSummand, items-the_row-RawSummand, items_shown-the_row-RawSummand-2, RawSummand, Fact, note, ix_notes, steps_notes, mono_notes, atom_notes, value_notes, facts_notes, summands_notes, fact_notes, atom_monomials, excess_notes, ix_monomials, mark, mono_monomials, number_limit, number_notes, drop_of_length-le, length-drop, out-RawIx, out-RawAtom, out-RawValue, steps_monomials}
 use Rattle.spf_kernel.specs.declared.raw.RawFactor.TheVariants.{Paren}
 use Rattle.spf_kernel.proofs.NamedUses.{AreFitting}
 
@@ -91,12 +91,6 @@ excess_append (suc room) [] ys =
 excess_append (suc room) (x ∷ xs) ys =
     let same : room - length xs ≡ suc room - length (x ∷ xs) = omega arith in
     excess_append room xs ys ∙ ap (λ left. excess_notes room xs ++ excess_notes left ys) same
-
--- the same of what stands behind other notes
-pub more_excess : (room : ℕ) (xs ys : List Token) (old middle new : List Note) (left : ℕ) → middle ≡ old ++ excess_notes room xs → left ≡ room - length xs → new ≡ middle ++ excess_notes left ys
-    → new ≡ old ++ excess_notes room (xs ++ ys)
-more_excess room xs ys old middle new left first less second =
-    second ∙ (λ i. first i ++ excess_notes (less i) ys) ∙ append_assoc old (excess_notes room xs) (excess_notes (room - length xs) ys) ∙ ap (λ (notes : List Note). old ++ notes) (sym (excess_append room xs ys))
 
 -- so few monomials that none is noted
 pub none_in_excess : (room : ℕ) (tokens : List Token) → length tokens ≤ room → excess_notes room tokens ≡ []

@@ -80,8 +80,7 @@ module _ (names : TreeNames) (vars : List (List ℕ)) where
   prods_are end_of-Prod = refl
   prods_are (more_of-Prod minus shape facts others) =
       let here = prod_is facts ∙ ap (separated (codes "*") (fact_words names vars)) (sym (items_shown-the_row-Factor-0 shape facts)) in
-      let more = prods_are others in
-      cc
+      let more = prods_are others in cc
 
   value_is : {n : _} (row : Row_of-Prod n) → prods_words names vars row ≡ signed (λ (prod : Prod). prod.minus) (prod_words names vars) (items-the_row-Prod n row)
   value_is end_of-Prod = refl

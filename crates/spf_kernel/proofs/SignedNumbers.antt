@@ -12,8 +12,7 @@ wrap_zero = wrap_pos 0 (omega arith)
 
 pub wrap_neg : (n : ℕ) → n < 2 ^ 64 → wrap (pos 0 -ℤ cast_signed w64 n) ≡ wrap (neg_ℤ (pos n))
 unfolding wrap
-wrap_neg n h =
-    ap (λ z. int_wrap w64 (pos 0 -ℤ z)) (wrap_pos n h) ∙ int_wrap-sub_right w64 (pos 0) (pos n) ∙ ap (int_wrap w64) (omega (arith, ints))
+wrap_neg n h = ap (λ z. int_wrap w64 (pos 0 -ℤ z)) (wrap_pos n h) ∙ int_wrap-sub_right w64 (pos 0) (pos n) ∙ ap (int_wrap w64) (omega (arith, ints))
 
 pub wrap_sum : (a b : ℤ) → wrap (wrap a +ℤ wrap b) ≡ wrap (a +ℤ b)
 unfolding wrap

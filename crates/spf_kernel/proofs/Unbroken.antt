@@ -1,5 +1,5 @@
 -- Where no rule is broken, each fact keeps each rule behind those before: the declared names are apart, and at most 64 of a sort.
-use Rattle.spf_kernel.proofs.Common.{Sort, ◌≡◌, ℕ, ◌+◌, ◌≤◌, ◌<◌, get_or, Bool, true, false, nat_le, ◌||◌, ◌&&◌, List, [], ◌∷◌, ◌++◌, length, filter, take, slice_get, Option, Some, refl, ap, sym, ◌∙◌, true≢false, append_assoc, append-nil, subst, ◌⊎◌, inl, inr, ⊎_elim, arith, ⊤, nat_tests, length-map, map-append, map_push, take_all, take_more, bytes_eq, insert_key, Before, Note, Says, Declared, Variable, Breach, IsFirst, Fact, fact_of, facts_of, names_of, IsUnbroken, count_that, is_data, is_in_scope, is_loop, is_naming, is_param, is_site, is_table, names_that, is_known, declares, cond, false_from_ne_true, length-filter, before_of, once, IsShort}
+use Rattle.spf_kernel.proofs.Common.{Sort, ◌≡◌, ℕ, ◌+◌, ◌≤◌, Bool, true, false, nat_le, ◌||◌, ◌&&◌, List, [], ◌∷◌, ◌++◌, length, filter, slice_get, Some, refl, ap, sym, ◌∙◌, true≢false, append_assoc, append-nil, subst, ◌⊎◌, inl, inr, ⊎_elim, arith, ⊤, nat_tests, length-map, map-append, map_push, bytes_eq, insert_key, Before, Note, Says, Declared, Variable, Fact, fact_of, facts_of, names_of, IsUnbroken, count_that, is_data, is_in_scope, is_loop, is_naming, is_param, is_site, is_table, names_that, is_known, declares, cond, false_from_ne_true, length-filter, before_of, once, IsShort}
 use Rattle.spf_kernel.specs.Rules.{late_name, rules}
 use Rattle.spf_kernel.proofs.Adding.{names_more, once_names_more, with_name, count_more, more}
 
@@ -94,14 +94,10 @@ how_many test facts = length-map (filter (λ (fact : Fact). test fact.says) fact
 -- ---- names that are apart
 
 all_lack : (p t d l o : Bool) → (p || (t || (d || l))) || o ≡ false → (p ≡ false) × (t ≡ false) × (d ≡ false)
-all_lack true t d l o e = absurd (true≢false e)
-all_lack false true d l o e = absurd (true≢false e)
-all_lack false false true l o e = absurd (true≢false e)
-all_lack false false false l o e = (refl, refl, refl)
+all_lack p t d l o e = (grind arith, grind arith, grind arith)
 
 not_second : (a b : Bool) → a && b ≡ false → a ≡ true → b ≡ false
-not_second true b e holds = e
-not_second false b e holds = absurd (true≢false (sym holds))
+not_second a b e holds = grind arith
 
 -- a fact declares one of these sorts only where it gives a name
 pub naming : (says : Says) → (is_naming says ≡ true) ⊎ ((is_param says ≡ false) × (is_table says ≡ false) × (is_data says ≡ false))
@@ -161,17 +157,3 @@ module _ (facts : List Fact) (sound : AreSound [] facts) where
       tables = rw (tables_are, how_many is_table facts) (omega (arith, (few facts sound).arrays));
       data_arrays = rw (data_arrays_are, how_many is_data facts) (omega (arith, (few facts sound).arrays));
     }
-
--- what holds of the notes up to one, and of it, holds behind it
-pub further : (texts : List (List ℕ)) (notes : List Note) (i : ℕ) (d : Note) (before : Before) (best : Option Breach) → i < length notes
-    → before ≡ before_of (facts_of texts (take i notes) ++ fact_of texts (get_or notes i d) ∷ []) → IsFirst texts (take i notes ++ get_or notes i d ∷ []) best
-    → (before ≡ before_of (facts_of texts (take (i + 1) notes))) × IsFirst texts (take (i + 1) notes) best
-further texts notes i d before best inside stands first =
-    subst (λ (seen : List Note). (before ≡ before_of (facts_of texts seen)) × IsFirst texts seen best) (sym (take_more notes i d inside))
-    (stands ∙ ap before_of (sym (map_push (fact_of texts) (take i notes) (get_or notes i d))), first)
-
--- what holds of the notes up to an end that is behind them holds of all
-pub at_end : (texts : List (List ℕ)) (notes : List Note) (i : ℕ) (before : Before) (best : Option Breach) → length notes ≤ i
-    → before ≡ before_of (facts_of texts (take i notes)) → IsFirst texts (take i notes) best → (before ≡ before_of (facts_of texts notes)) × IsFirst texts notes best
-at_end texts notes i before best past stands first =
-    subst (λ (seen : List Note). (before ≡ before_of (facts_of texts seen)) × IsFirst texts seen best) (take_all i notes past) (stands, first)

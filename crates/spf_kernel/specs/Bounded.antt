@@ -59,3 +59,4 @@ pub record IsBoundedTree (tree : Tree) : Type 0 where
   pub loops : All IsBoundedLoop tree.loops
   pub few : length tree.loops ≤ 32
   pub arrays : length (names_in tree.decls).arrays ≤ 64
+  pub tables : length (names_in tree.decls).tables ≤ 64

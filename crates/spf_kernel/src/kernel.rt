@@ -16,8 +16,7 @@ ghost use Rattle.spf_kernel.specs.Parsed.{IsParsed, IsTextOf, IsAnswer, IsVerdic
 ghost use Rattle.spf_kernel.specs.printing.Printed.{words_of};
 
 use crate::check::names::{Names, Source};
-use crate::check::notes::notes_of;
-use crate::check::rules::check;
+use crate::check::notes::check;
 use crate::fault::{KernelFault, Unkept};
 use crate::printing::tree::tree_text;
 use crate::raw::RawKernel;
@@ -27,10 +26,6 @@ use spf_base::NoMemory;
 use spf_lex::{Kind, PartFault, Tokens, part_at, place_from};
 use std::alloc::Global;
 use std::marker::Model;
-
-/// A kernel has fewer notes, so that each loop has fewer than 2^31 sites. No text of 64 MiB has so many, since a token gives
-/// three at most.
-const TOO_MANY_NOTES: usize = 1 << 30;
 
 /// A kernel that some text spells and that keeps the rules, seen as its tree, which is small enough.
 #[derive(Drop)]
@@ -96,11 +91,7 @@ pub fn judge(alloc: Global, tokens: &Tokens, raw: &RawKernel) -> Result<Kernel, 
     requires lexed { IsTokenized tokens.now.text tokens.now.spans }
     ensures { IsVerdict tokens.now raw.now result }
 {
-    let notes = notes_of(alloc, raw)?;
-    if notes.len() >= TOO_MANY_NOTES {
-        return Err(Unkept::Memory);
-    }
-    match check(alloc, tokens, notes.as_slice())? {
+    match check(alloc, tokens, raw)? {
         Ok(names) => Ok(kernel_of(alloc, tokens, &names, raw)?),
         Err(breach) => Err(Unkept::Rule {
             place: place_from(tokens, breach.place),

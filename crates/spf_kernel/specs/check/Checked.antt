@@ -1,14 +1,14 @@
 -- What the rules say of the notes of a kernel.
-use Rattle.std.specs.Prelude.{ℕ, ◌≡◌, ◌+◌, ◌<◌, ◌⊎◌, Bool, if◌then◌else◌, List, [], ◌∷◌, Option, None, Some, Result, Ok, Err}
+use Rattle.std.specs.Prelude.{ℕ, ◌≡◌, ◌+◌, ◌≤◌, Bool, if◌then◌else◌, List, [], ◌∷◌, Option, None, Some, Result, Ok, Err}
 use Rattle.spf_kernel.specs.Types.{Note}
 use Rattle.spf_kernel.specs.declared.check.rules.Breach.{Breach}
 use Rattle.spf_kernel.specs.Facts.{Fact, facts_of}
 use Rattle.spf_kernel.specs.Names.{Names, names_of}
 use Rattle.spf_kernel.specs.Rules.{rules, IsFirstBreach, IsUnbroken}
 
--- a breach comes before another: by the place, and then by the rule
-abbrev pub Precedes : Breach → Breach → Type 0
-Precedes a b = (a.place < b.place) ⊎ ((a.place ≡ b.place) × (a.rule < b.rule))
+-- a breach stands at a place no later than another, and at the same place it is of no later rule
+abbrev pub Leads : Breach → Breach → Type 0
+Leads a b = (a.place ≤ b.place) × (a.place ≡ b.place → a.rule ≤ b.rule)
 
 -- the number of the first of these rules that the fact breaks, behind those before, where they have the numbers from `n` on
 abbrev pub first_broken : ℕ → List (List Fact → Fact → Bool) → List Fact → Fact → Option ℕ

@@ -6,10 +6,9 @@ ghost use Rattle.std.specs.Str.{bytes_eq};
 ghost use Rattle.spf_lex.specs.Tokens.{texts};
 ghost use Rattle.spf_kernel.specs.Facts.{Fact, fact_of};
 ghost use Rattle.spf_kernel.specs.check.Before.{IsBelow, before_of};
-ghost use Rattle.spf_kernel.specs.Names.{IsShort};
 
 use crate::check::counts::Counts;
-use crate::check::names::{NameSet, Names, text_of};
+use crate::check::names::{NameSet, text_of};
 use crate::note::{Note, Says, Sort};
 use spf_base::NoMemory;
 use spf_lex::Tokens;
@@ -55,7 +54,7 @@ impl<'a> Before<'a> {
         requires { IsBelow (2 ^ 63) self.old.counts }
         ensures { OnOk result ((before : List Fact) → self.old ≡ before_of before → self.new ≡ before_of (before ++ fact_of (texts tokens.now) note.now ∷ [])) }
     {
-        self.counts = self.counts.with(note);
+        self.counts.add(note);
         let name = text_of(tokens, note.token);
         match note.says {
             Says::Declared(Sort::Param) => self.params.insert(name),
@@ -64,19 +63,5 @@ impl<'a> Before<'a> {
             Says::Declared(Sort::Loop) => self.loops.insert(name),
             _ => Ok(()),
         }
-    }
-
-    /// The names of the parameters and arrays.
-    pub(crate) fn into_names(self) -> Names<'a>
-        requires { IsShort (record { params = self.params; tables = self.tables; data_arrays = self.data_arrays }) }
-        ensures { result ≡ record { params = self.entry.params; tables = self.entry.tables; data_arrays = self.entry.data_arrays } }
-    {
-        let Before {
-            params,
-            tables,
-            data_arrays,
-            ..
-        } = self;
-        Names::new(params, tables, data_arrays)
     }
 }

@@ -54,53 +54,32 @@ impl Counts {
         }
     }
 
-    /// The counts with a fact more.
+    /// Counts a fact more.
     #[tactic(auto, using(crate::proofs::Adding::counts_after))]
-    pub(crate) fn with(self, note: &Note) -> Counts
-        requires { IsBelow (2 ^ 63) self }
-        ensures { (texts : List (List ℕ)) (before : List Fact) → self ≡ counts_of before → result ≡ counts_of (before ++ fact_of texts note.now ∷ []) }
+    pub(crate) fn add(&mut self, note: &Note)
+        requires { IsBelow (2 ^ 63) self.old }
+        ensures { (texts : List (List ℕ)) (before : List Fact) → self.old ≡ counts_of before → self.new ≡ counts_of (before ++ fact_of texts note.now ∷ []) }
     {
-        let sites = self.sites + usize::from(is_site(note.says));
-        let counts = Counts { sites, ..self };
+        self.sites += usize::from(is_site(note.says));
         match note.says {
-            Says::Declared(Sort::Param) => Counts {
-                params: self.params + 1,
-                ..counts
-            },
-            Says::Declared(Sort::Index) => Counts {
-                tables: self.tables + 1,
-                ..counts
-            },
-            Says::Declared(Sort::Data) => Counts {
-                data_arrays: self.data_arrays + 1,
-                ..counts
-            },
-            Says::Declared(Sort::Loop) => Counts {
-                loops: self.loops + 1,
-                targets: 0,
-                ..counts
-            },
+            Says::Declared(Sort::Param) => self.params += 1,
+            Says::Declared(Sort::Index) => self.tables += 1,
+            Says::Declared(Sort::Data) => self.data_arrays += 1,
+            Says::Declared(Sort::Loop) => {
+                self.loops += 1;
+                self.targets = 0;
+            }
             Says::Used {
                 spot: Spot::Target,
                 ..
-            } => Counts {
-                targets: self.targets + 1,
-                factors: 0,
-                ..counts
-            },
-            Says::Factor => Counts {
-                factors: self.factors + 1,
-                ..counts
-            },
-            Says::Guard => Counts {
-                conditions: 0,
-                ..counts
-            },
-            Says::Condition => Counts {
-                conditions: self.conditions + 1,
-                ..counts
-            },
-            Says::Used { .. } | Says::Variable | Says::Large | Says::Excess => counts,
+            } => {
+                self.targets += 1;
+                self.factors = 0;
+            }
+            Says::Factor => self.factors += 1,
+            Says::Guard => self.conditions = 0,
+            Says::Condition => self.conditions += 1,
+            Says::Used { .. } | Says::Variable | Says::Large | Says::Excess => {}
         }
     }
 }

@@ -1,8 +1,8 @@
 //! Rules 5 to 11: how large a number is, and how many of a kind there are.
 
-ghost use Rattle.std.specs.Prelude.{◌≡◌, ◌^◌, List, ℕ};
+ghost use Rattle.std.specs.Prelude.{◌≡◌, List, ℕ};
 ghost use Rattle.spf_kernel.specs.check.Checked.{first_broken};
-ghost use Rattle.spf_kernel.specs.check.Before.{IsBelow, counts_of};
+ghost use Rattle.spf_kernel.specs.check.Before.{counts_of};
 ghost use Rattle.spf_kernel.specs.Facts.{Fact, fact_of};
 ghost use Rattle.spf_kernel.specs.Rules.{limit_rules};
 
@@ -30,13 +30,13 @@ const MOST_SITES: usize = 256;
 /// The least of rules 5 to 11 that the note breaks.
 #[tactic(auto, unfolding(crate::specs::check::Before::counts_of))]
 pub(crate) fn limit_rule(before: &Counts, note: &Note) -> Option<u32>
-    requires { IsBelow (2 ^ 63) before.now }
     ensures { (texts : List (List ℕ)) (facts : List Fact) → before.now ≡ counts_of facts → result ≡ first_broken 5 limit_rules facts (fact_of texts note.now) }
 {
     match note.says {
         Says::Declared(Sort::Param) => (before.params >= MOST_PARAMS).then_some(6),
         Says::Declared(Sort::Index | Sort::Data) => {
-            (before.tables + before.data_arrays >= MOST_ARRAYS).then_some(6)
+            let arrays = before.tables.saturating_add(before.data_arrays);
+            (arrays >= MOST_ARRAYS).then_some(6)
         }
         Says::Declared(Sort::Loop) => (before.loops >= MOST_LOOPS).then_some(7),
         Says::Used { spot, .. } => {

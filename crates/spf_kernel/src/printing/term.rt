@@ -97,6 +97,7 @@ fn push_further_monos(words: &mut Words, shown: &Shown, monos: &[Mono]) -> Resul
 
 /// Writes an index expression. Linear in it and in how many numbers its constant is written as.
 #[cycle(print_term)]
+#[tactic(auto, using(crate::proofs::PrintEquations::term_words_are, crate::proofs::PrintEquations::term_begins, std::proofs::lemmas::Grind::common_steps))]
 pub fn push_term(words: &mut Words, shown: &Shown, term: &Term) -> Result<(), NoMemory>
     ensures { OnOk result (words.new ≡ words.old ++ term_words shown.now.names.now shown.now.vars.now term.now) }
 {

@@ -1,6 +1,6 @@
 //! Readers of index expressions, with brackets so many deep.
 
-ghost use Rattle.std.specs.Prelude.{ℕ, ◌≡◌, ◌<◌, ◌-◌, ◌++◌};
+ghost use Rattle.std.specs.Prelude.{ℕ, ◌≡◌, ◌<◌, ◌-◌, [], ◌∷◌, ◌++◌, IfOk};
 ghost use Rattle.spf_lex.specs.BundleWords.{same_kind};
 ghost use Rattle.spf_lex.specs.Derivation.{made};
 ghost use Rattle.spf_lex.specs.Production.{begins, between, optional, token};
@@ -11,7 +11,7 @@ ghost use Rattle.spf_kernel.specs.Productions as p;
 use crate::raw::{RawAtom, RawIx, RawMono, RawStep};
 use spf_lex::{Cursor, Kind, ReadFault, Token, Unexpected};
 use sqlite_items::{Boxed, Items};
-use std::alloc::Global;
+use std::alloc::{AllocError, Global};
 
 /// Greatest nesting depth of brackets.
 pub const BRACKETS: u32 = 5;
@@ -125,6 +125,15 @@ fn next_steps(
     Ok(steps)
 }
 
+/// A list of one part, with room for no more.
+pub fn alone<T: Drop>(alloc: Global, part: T) -> Result<Items<T>, AllocError>
+    ensures { IfOk result (λ parts. parts ≡ part ∷ []) }
+{
+    let mut parts = Vec::with_capacity(alloc, 1)?;
+    parts.push(part)?;
+    Ok(Items::from_vec(parts))
+}
+
 /// An index expression. Linear in its tokens.
 #[cycle(ix)]
 #[tactic(auto, unfolding(crate::specs::Productions::sum, crate::specs::Productions::ix))]
@@ -132,9 +141,7 @@ pub fn ix(alloc: Global, tokens: &mut Cursor<Kind>, depth: u32) -> Result<RawIx,
     ensures { Reads ((p.ix depth).read tokens.old) result tokens.new }
 {
     let first = first_step(alloc, tokens, depth)?;
-    let mut steps = Items::new(alloc);
-    steps.push(first)?;
-    let steps = next_steps(alloc, tokens, depth, steps)?;
+    let steps = next_steps(alloc, tokens, depth, alone(alloc, first)?)?;
     Ok(RawIx { steps })
 }
 

@@ -10,7 +10,7 @@ ghost use Rattle.spf_kernel.specs.Productions as p;
 ghost use Rattle.spf_kernel.specs.declared.raw.RawFactor.TheVariants as factor_is;
 
 use crate::raw::{RawFactor, RawSummand, RawValue};
-use crate::read::ix::{BRACKETS, atom, begins_sign, number};
+use crate::read::ix::{BRACKETS, alone, atom, begins_sign, number};
 use spf_lex::{Cursor, Kind, ReadFault, keyword};
 use sqlite_items::{Boxed, Items};
 use std::alloc::Global;
@@ -60,7 +60,6 @@ fn next_facts(
     Ok(facts)
 }
 
-/// The factors of a product.
 #[cycle(value)]
 #[tactic(auto, unfolding(spf_lex::specs::Reader::list_by))]
 fn facts(
@@ -71,9 +70,7 @@ fn facts(
     ensures { Reads ((separated kind.Star (p.fact depth)).read tokens.old) result tokens.new }
 {
     let first = fact(alloc, tokens, depth)?;
-    let mut facts = Items::new(alloc);
-    facts.push(first)?;
-    next_facts(alloc, tokens, depth, facts)
+    next_facts(alloc, tokens, depth, alone(alloc, first)?)
 }
 
 #[cycle(value)]
@@ -104,7 +101,6 @@ fn next_summand(
     Ok(RawSummand { minus, facts })
 }
 
-/// Reads further products onto a list.
 #[cycle(value)]
 fn next_summands(
     alloc: Global,
@@ -131,13 +127,10 @@ pub fn value(alloc: Global, tokens: &mut Cursor<Kind>, depth: u32) -> Result<Raw
     ensures { Reads ((p.value depth).read tokens.old) result tokens.new }
 {
     let first = first_summand(alloc, tokens, depth)?;
-    let mut summands = Items::new(alloc);
-    summands.push(first)?;
-    let summands = next_summands(alloc, tokens, depth, summands)?;
+    let summands = next_summands(alloc, tokens, depth, alone(alloc, first)?)?;
     Ok(RawValue { summands })
 }
 
-/// A value in parentheses.
 #[cycle(value)]
 fn parenthesized(
     alloc: Global,
@@ -165,7 +158,6 @@ fn nested(alloc: Global, tokens: &mut Cursor<Kind>, depth: u32) -> Result<RawFac
     Ok(RawFactor::Paren(Boxed::new(alloc, inside)?))
 }
 
-/// Whether a number begins.
 #[tactic(auto, unfolding(crate::specs::Productions::number, spf_lex::specs::LookAhead::first))]
 fn begins_number(tokens: &Cursor<Kind>) -> bool
     ensures { result ≡ begins p.number tokens.now }

@@ -15,6 +15,7 @@ use spf_term::{Atom, Mono, Term};
 use sqlite_items::Items;
 
 /// The number with the sign in front of it.
+#[tactic(auto, using(crate::proofs::SignedNumbers::wrap_pos, crate::proofs::SignedNumbers::wrap_neg, std::proofs::lemmas::Grind::common_steps))]
 fn signed(minus: bool, number: u64) -> i64
     ensures { result ≡ wrap (signed minus number) }
 {
@@ -70,6 +71,7 @@ fn bare_atom(source: &Source, scope: Scope, name: Token) -> Atom
 }
 
 #[cycle(resolve_ix)]
+#[tactic(auto, using(crate::proofs::TermEquations::atom_is_at, std::proofs::lemmas::Grind::common_steps))]
 fn resolve_atom(source: &Source, scope: Scope, atom: &RawAtom) -> Result<Atom, NoMemory>
     ensures { IfOk result (λ found. found ≡ atom_of (texts source.now.tokens.now) source.now.names.now scope atom.now) }
 {

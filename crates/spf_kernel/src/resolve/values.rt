@@ -74,6 +74,7 @@ fn resolve_summand(source: &Source, scope: Scope, summand: &RawSummand) -> Resul
 
 /// The value that is meant. Linear in it.
 #[cycle(resolve_value)]
+#[tactic(auto, using(crate::proofs::TermEquations::value_is, std::proofs::lemmas::Grind::common_steps))]
 pub(super) fn resolve_value(
     source: &Source,
     scope: Scope,

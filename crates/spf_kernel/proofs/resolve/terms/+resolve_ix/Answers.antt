@@ -1,11 +1,6 @@
 use Rattle.spf_kernel.proofs.Common.{arith, common_steps, texts}
 use Rattle.spf_kernel.proofs.resolve.terms.+resolve_ix.Goals as goal
-use Rattle.spf_kernel.proofs.TermEquations.{term_is, atom_is_at}
-
-pub resolve_atom-returns-in_ok-resolve_ix-in-Some : goal.resolve_atom-returns-in_ok-resolve_ix-in-Some
-resolve_atom-returns-in_ok-resolve_ix-in-Some t c =
-    let e = atom_is_at (texts c.args.source.now.tokens.now) c.args.source.now.names.now c.args.scope c.args.atom.now in
-    grind (arith, common_steps)
+use Rattle.spf_kernel.proofs.TermEquations.{term_is}
 
 pub resolve_ix-returns : goal.resolve_ix-returns
 resolve_ix-returns t c =
