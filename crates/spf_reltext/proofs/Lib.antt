@@ -2,6 +2,7 @@ pub mod Extending
 pub mod FactEquations
 pub mod Formed
 pub mod LiteralTexts
+pub mod NameLists
 pub mod OneReading
 pub mod PrintEquations
 pub mod Signs

@@ -74,7 +74,17 @@ module _ (ins outs : ℕ) where
       else if nat_lt (n - ins) outs then numbered (codes "Y") (n - ins)
       else numbered (codes "E") (n - ins - outs)
 
-module _ (ins outs : ℕ) (names : RelNames) where
+-- how variables, parameters and functions are written, each by its number
+pub record Naming : Type 0 where
+  pub variable : ℕ → List ℕ
+  pub param : ℕ → List ℕ
+  pub fun : ℕ → List ℕ
+
+-- how those of sets and relations are written
+abbrev pub rel_naming : ℕ → ℕ → RelNames → Naming
+rel_naming ins outs names = record { variable = variable_text ins outs; param = name_at names.params; fun = name_at names.funs }
+
+module _ (naming : Naming) where
   -- ---- terms
 
   abbrev mutual
@@ -86,9 +96,9 @@ module _ (ins outs : ℕ) (names : RelNames) where
     monos_text at (more_of-Mono coef atom others) constant = sign_text at (is_negative coef) ++ (factor_text coef ++ atom_text atom) ++ monos_text (at + 1) others constant
 
     pub atom_text : Atom → List ℕ
-    atom_text (Atom.Var number) = variable_text ins outs number
-    atom_text (Atom.Param number) = name_at names.params number
-    atom_text (Atom.App fun arg) = name_at names.funs fun ++ codes "[" ++ term_text arg ++ codes "]"
+    atom_text (Atom.Var number) = naming.variable number
+    atom_text (Atom.Param number) = naming.param number
+    atom_text (Atom.App fun arg) = naming.fun fun ++ codes "[" ++ term_text arg ++ codes "]"
 
   abbrev pub mono_text : Mono → List ℕ
   mono_text mono = factor_text mono.coef ++ atom_text mono.atom
@@ -130,7 +140,7 @@ head_text ins (Some outs) = tuple_text (codes "X") ins ++ codes " -> " ++ tuple_
 module _ (ins : ℕ) (outs : Option ℕ) (names : RelNames) where
   abbrev pub conj_text : Conj → List ℕ
   conj_text conj =
-      codes "{ " ++ head_text ins outs ++ variables_text (codes " with ") (codes "E") conj.inner ++ body_text ins (unwrap_or outs 0) names conj ++ codes " }"
+      codes "{ " ++ head_text ins outs ++ variables_text (codes " with ") (codes "E") conj.inner ++ body_text (rel_naming ins (unwrap_or outs 0) names) conj ++ codes " }"
 
 abbrev pub none_text : ℕ → Option ℕ → List ℕ
 none_text ins None = codes "none(" ++ decimal ins ++ codes ")"

@@ -10,19 +10,24 @@
 //! at a token, or the exact fault of syntax there, or the least rule that is broken (`IsRelAnswer`, `IsSetAnswer`); what they
 //! give is well-formed, names that there were keep their numbers (`names_are_kept`), and literals are read in one way
 //! (`one_list_of_literals`). `print_rel` and `print_set` give the
-//! text of a relation or set (`Printed`), in which variables are named X, Y and E by what they are; `push_term` prints a
-//! term alone.
+//! text of a relation or set (`Printed`), in which variables are named X, Y and E by what they are. `push_term` prints a
+//! term alone, however its caller writes variables, parameters and functions: that is a `TermNames`, whose meaning is a
+//! `Naming`. A `Layout` writes those of sets and relations.
 //!
 //! The crate stands on spf_lex for words, productions and their readers, on spf_rel and spf_term for what is read and
-//! printed, and on spf_base for names, places and running out of memory. Reading is linear in the tokens, but each name is
-//! looked for among the variables of its literal and among the names, one by one; printing is linear in the text.
+//! printed, and on spf_base for names, places and running out of memory. The names of parameters and functions are found by
+//! their hashes (`NameSet`), so that reading is linear in the tokens on average, but each name is looked for among the
+//! variables of its literal, one by one; `parse_rel` and `parse_set` copy the names that there were. Printing is linear in
+//! the text.
 #![tactic(auto)]
 
 mod fact;
 mod ix;
 mod kind;
+mod layout;
 mod literal;
 mod meaning;
+mod name_set;
 mod names;
 mod parse;
 mod part;
@@ -35,9 +40,11 @@ mod rules;
 mod terms;
 
 pub use kind::CalcKind;
+pub use layout::Layout;
 pub use literal::{Literals, one_list_of_literals};
+pub use name_set::NameSet;
 pub use names::{RelNames, names_are_kept};
 pub use parse::{RelTextFault, parse_rel, parse_set};
-pub use print_term::{Layout, push_term};
+pub use print_term::{TermNames, push_term};
 pub use printing::{print_rel, print_set};
 pub use rules::{Shape, same_shape};

@@ -12,7 +12,7 @@ use spf_rel::{Conj, Rel, Set};
 use sqlite_items::Items;
 use std::alloc::Global;
 
-/// The conjunction that a literal means. Each name is looked for among the variables and the names.
+/// The conjunction that a literal means. Linear in it on average, but each name is looked for among the variables.
 fn conj_of(alloc: Global, names: &RelNames, literal: &RawLiteral) -> Result<Conj, NoMemory>
     ensures { IfOk result (λ conj. conj ≡ conj_of names.now literal.now) }
 {

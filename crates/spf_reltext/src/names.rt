@@ -5,20 +5,20 @@ ghost use Rattle.std.specs.Option.{unwrap_or};
 ghost use Rattle.std.specs.Str.{bytes_eq};
 ghost use Rattle.spf_reltext.specs.declared.names.RelNames.{RelNames as NamesBefore};
 ghost use Rattle.spf_reltext.specs.declared.raw.RawLiteral.{RawLiteral};
-ghost use Rattle.spf_reltext.specs.Names.{Extends, fact_names, inserted, literal_names, names_of, noted, number_of};
+ghost use Rattle.spf_reltext.specs.Names.{Extends, fact_names, literal_names, names_of, noted, number_of};
 
 use crate::fact::{Fact, Role, facts_in};
+use crate::name_set::NameSet;
 use crate::raw::RawLiteral;
-use crate::rules::{contains, copy_names, is_same, variables};
+use crate::rules::{contains, is_same, variables};
 use spf_base::{Name, NoMemory};
-use sqlite_items::Items;
 use std::alloc::Global;
 
 /// The names of parameters and of functions, each at its number.
 #[derive(Drop)]
 pub struct RelNames {
-    pub params: Items<Name>,
-    pub funs: Items<Name>,
+    pub params: NameSet,
+    pub funs: NameSet,
 }
 
 impl RelNames {
@@ -27,19 +27,19 @@ impl RelNames {
         ensures funs { result.funs ≡ [] }
     {
         RelNames {
-            params: Items::new(alloc),
-            funs: Items::new(alloc),
+            params: NameSet::new(alloc),
+            funs: NameSet::new(alloc),
         }
     }
 
-    /// A copy. Linear in the names.
-    fn copy(alloc: Global, names: &RelNames) -> Result<RelNames, NoMemory>
-        ensures { IfOk result (λ made. made ≡ names.now) }
+    /// A copy. Linear in the names on average.
+    fn copy(&self) -> Result<RelNames, NoMemory>
+        ensures { IfOk result (λ made. made ≡ self.now) }
     {
-        let mut made = RelNames::new(alloc);
-        copy_names(alloc, &mut made.params, names.params.as_slice())?;
-        copy_names(alloc, &mut made.funs, names.funs.as_slice())?;
-        Ok(made)
+        Ok(RelNames {
+            params: self.params.copy()?,
+            funs: self.funs.copy()?,
+        })
     }
 }
 
@@ -67,17 +67,6 @@ pub(crate) fn number_of(names: &[Name], name: &Name) -> Result<u32, NoMemory>
     number(place_of(names, name).unwrap_or(names.len()))
 }
 
-/// Puts a copy of the name behind the others, where it isn't among them. Linear in them.
-fn insert(alloc: Global, names: &mut Items<Name>, name: &Name) -> Result<(), NoMemory>
-    ensures { OnOk result (names.new ≡ inserted names.old name.now) }
-{
-    if contains(names.as_slice(), name) {
-        return Ok(());
-    }
-    names.push(Name::copy(alloc, name.bytes())?)?;
-    Ok(())
-}
-
 fn note(
     alloc: Global,
     names: &mut RelNames,
@@ -92,9 +81,9 @@ fn note(
             if contains(variables, name) {
                 return Ok(());
             }
-            insert(alloc, &mut names.params, name)
+            names.params.insert(alloc, name)
         }
-        Role::Entry(name) => insert(alloc, &mut names.funs, name),
+        Role::Entry(name) => names.funs.insert(alloc, name),
     }
 }
 
@@ -120,7 +109,8 @@ fn note_literal(alloc: Global, names: &mut RelNames, literal: &RawLiteral) -> Re
     note_facts(alloc, names, variables.as_slice(), facts.as_slice())
 }
 
-/// Puts the names that the literals use first behind the others. Each monomial is looked for among the names.
+/// Puts the names that the literals use first behind the others. Linear in the monomials on average, but each is looked for
+/// among the variables of its literal.
 pub(crate) fn note_literals(
     alloc: Global,
     names: &mut RelNames,
@@ -134,7 +124,7 @@ pub(crate) fn note_literals(
     Ok(())
 }
 
-/// These names, and behind them those that the literals use first.
+/// These names, and behind them those that the literals use first. Copies the names, and then linear in the monomials.
 pub(crate) fn names_of(
     alloc: Global,
     names: &RelNames,
@@ -142,7 +132,7 @@ pub(crate) fn names_of(
 ) -> Result<RelNames, NoMemory>
     ensures { IfOk result (λ made. made ≡ names_of names.now literals.now) }
 {
-    let mut made = RelNames::copy(alloc, names)?;
+    let mut made = names.copy()?;
     note_literals(alloc, &mut made, literals)?;
     Ok(made)
 }

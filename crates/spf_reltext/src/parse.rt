@@ -87,7 +87,8 @@ fn literals_at(
 }
 
 /// Reads the relation that stands from token `from` on, and gives the number of the token behind it. The names grow by
-/// those that it uses first; after a refusal they are as before. Each name is looked for among the names, one by one.
+/// those that it uses first; after a refusal they are as before. Linear in the tokens and in the names that there were, on
+/// average, but each name is looked for among the variables of its literal.
 pub fn parse_rel(
     alloc: Global,
     tokens: &Tokens,
@@ -107,7 +108,8 @@ pub fn parse_rel(
 }
 
 /// Reads the set that stands from token `from` on, and gives the number of the token behind it. The names grow by those
-/// that it uses first; after a refusal they are as before. Each name is looked for among the names, one by one.
+/// that it uses first; after a refusal they are as before. Linear in the tokens and in the names that there were, on
+/// average, but each name is looked for among the variables of its literal.
 pub fn parse_set(
     alloc: Global,
     tokens: &Tokens,

@@ -4,7 +4,7 @@ ghost use Rattle.std.specs.Prelude.{◌≡◌, ◌++◌, codes, OnOk};
 ghost use Rattle.spf_reltext.specs.Printed.{amount, constraint_text, constraints_text, is_on, rest_text, side_from, side_text};
 
 use crate::print_parts::{push, push_lead, push_number};
-use crate::print_term::{Layout, push_mono};
+use crate::print_term::{TermNames, push_mono};
 use spf_base::NoMemory;
 use spf_term::{Mono, Term};
 
@@ -49,59 +49,64 @@ fn push_rest(text: &mut Vec<u8>, side: Side, n: usize, constant: i64) -> Result<
     push_number(text, amount)
 }
 
-fn push_sum(
+fn push_sum<N: TermNames>(
     text: &mut Vec<u8>,
-    layout: &Layout,
+    names: &N,
     side: Side,
     monos: &[Mono],
     constant: i64,
 ) -> Result<(), NoMemory>
-    ensures { OnOk result (text.new.items ≡ text.old.items ++ side_from layout.now.ins layout.now.outs layout.now.names.now side 0 monos.now constant) }
+    ensures { OnOk result (text.new.items ≡ text.old.items ++ side_from (N.naming names.now) side 0 monos.now constant) }
 {
     let mut n = 0;
     for mono in monos {
         if is_on(side, mono.coef) {
             push_lead(text, b"", b" + ", n)?;
-            push_mono(text, layout, mono)?;
+            push_mono(text, names, mono)?;
             n += 1;
         }
     }
     push_rest(text, side, n, constant)
 }
 
-fn push_side(text: &mut Vec<u8>, layout: &Layout, side: Side, term: &Term) -> Result<(), NoMemory>
-    ensures { OnOk result (text.new.items ≡ text.old.items ++ side_text layout.now.ins layout.now.outs layout.now.names.now side term.now) }
+fn push_side<N: TermNames>(
+    text: &mut Vec<u8>,
+    names: &N,
+    side: Side,
+    term: &Term,
+) -> Result<(), NoMemory>
+    ensures { OnOk result (text.new.items ≡ text.old.items ++ side_text (N.naming names.now) side term.now) }
 {
-    push_sum(text, layout, side, term.monos.as_slice(), term.constant)
+    push_sum(text, names, side, term.monos.as_slice(), term.constant)
 }
 
 /// A constraint with this sign. Linear in it.
-fn push_constraint(
+fn push_constraint<N: TermNames>(
     text: &mut Vec<u8>,
-    layout: &Layout,
+    names: &N,
     sign: &[u8],
     term: &Term,
 ) -> Result<(), NoMemory>
-    ensures { OnOk result (text.new.items ≡ text.old.items ++ constraint_text layout.now.ins layout.now.outs layout.now.names.now sign.now term.now) }
+    ensures { OnOk result (text.new.items ≡ text.old.items ++ constraint_text (N.naming names.now) sign.now term.now) }
 {
-    push_side(text, layout, Side::Left, term)?;
+    push_side(text, names, Side::Left, term)?;
     push(text, sign)?;
-    push_side(text, layout, Side::Right, term)
+    push_side(text, names, Side::Right, term)
 }
 
 /// Constraints with this sign, the first of them behind `opening`. Linear in them.
-pub(crate) fn push_constraints(
+pub(crate) fn push_constraints<N: TermNames>(
     text: &mut Vec<u8>,
-    layout: &Layout,
+    names: &N,
     opening: &[u8],
     sign: &[u8],
     terms: &[Term],
 ) -> Result<(), NoMemory>
-    ensures { OnOk result (text.new.items ≡ text.old.items ++ constraints_text layout.now.ins layout.now.outs layout.now.names.now opening.now sign.now terms.now) }
+    ensures { OnOk result (text.new.items ≡ text.old.items ++ constraints_text (N.naming names.now) opening.now sign.now terms.now) }
 {
     for (n, term) in terms.iter().enumerate() {
         push_lead(text, opening, b" and ", n)?;
-        push_constraint(text, layout, sign, term)?;
+        push_constraint(text, names, sign, term)?;
     }
     Ok(())
 }

@@ -1,56 +1,38 @@
-//! Printing terms.
+//! Printing terms, however their variables, parameters and functions are written.
 
 ghost use Rattle.std.specs.Prelude.{◌≡◌, ◌++◌, OnOk};
-ghost use Rattle.spf_reltext.specs.Printed.{atom_text, mono_text, name_at, sum_from, term_text, variable_text};
+ghost use Rattle.spf_reltext.specs.Printed.{Naming, atom_text, mono_text, sum_from, term_text};
 
-use crate::names::RelNames;
-use crate::print_parts::{push, push_constant, push_factor, push_numbered, push_sign};
-use spf_base::{Name, NoMemory};
+use crate::print_parts::{push, push_constant, push_factor, push_sign};
+use spf_base::NoMemory;
 use spf_term::{Atom, Mono, Term};
-use sqlite_items::Items;
 
-/// What numbers in terms are printed by: how many variables are inputs and outputs, and the names.
-#[derive(Drop)]
-pub struct Layout<'a> {
-    pub ins: u32,
-    pub outs: u32,
-    pub names: &'a RelNames,
-}
+/// Who writes the variables, parameters and functions of terms behind a text, each by its number.
+pub trait TermNames {
+    /// How they are written.
+    ghost naming: { Self → Naming };
 
-/// The name of this number, or nothing where there is none.
-fn push_name_at(text: &mut Vec<u8>, names: &Items<Name>, number: u32) -> Result<(), NoMemory>
-    ensures { OnOk result (text.new.items ≡ text.old.items ++ name_at names.now number) }
-{
-    match names.get(number as usize) {
-        Some(name) => push(text, name.bytes()),
-        None => push(text, b""),
-    }
-}
+    fn push_variable(&self, text: &mut Vec<u8>, number: u32) -> Result<(), NoMemory>
+        ensures { OnOk result (text.new.items ≡ text.old.items ++ (naming self.now).variable number) };
 
-fn push_variable(text: &mut Vec<u8>, layout: &Layout, number: u32) -> Result<(), NoMemory>
-    ensures { OnOk result (text.new.items ≡ text.old.items ++ variable_text layout.now.ins layout.now.outs number) }
-{
-    if number < layout.ins {
-        return push_numbered(text, b"X", number);
-    }
-    let behind = number - layout.ins;
-    if behind < layout.outs {
-        return push_numbered(text, b"Y", behind);
-    }
-    push_numbered(text, b"E", behind - layout.outs)
+    fn push_param(&self, text: &mut Vec<u8>, number: u32) -> Result<(), NoMemory>
+        ensures { OnOk result (text.new.items ≡ text.old.items ++ (naming self.now).param number) };
+
+    fn push_fun(&self, text: &mut Vec<u8>, number: u32) -> Result<(), NoMemory>
+        ensures { OnOk result (text.new.items ≡ text.old.items ++ (naming self.now).fun number) };
 }
 
 #[cycle(print_term)]
-fn push_atom(text: &mut Vec<u8>, layout: &Layout, atom: &Atom) -> Result<(), NoMemory>
-    ensures { OnOk result (text.new.items ≡ text.old.items ++ atom_text layout.now.ins layout.now.outs layout.now.names.now atom.now) }
+fn push_atom<N: TermNames>(text: &mut Vec<u8>, names: &N, atom: &Atom) -> Result<(), NoMemory>
+    ensures { OnOk result (text.new.items ≡ text.old.items ++ atom_text (N.naming names.now) atom.now) }
 {
     match atom {
-        Atom::Var(number) => push_variable(text, layout, *number),
-        Atom::Param(number) => push_name_at(text, &layout.names.params, *number),
+        Atom::Var(number) => names.push_variable(text, *number),
+        Atom::Param(number) => names.push_param(text, *number),
         Atom::App { fun, arg } => {
-            push_name_at(text, &layout.names.funs, *fun)?;
+            names.push_fun(text, *fun)?;
             push(text, b"[")?;
-            push_term(text, layout, arg)?;
+            push_term(text, names, arg)?;
             push(text, b"]")
         }
     }
@@ -58,25 +40,29 @@ fn push_atom(text: &mut Vec<u8>, layout: &Layout, atom: &Atom) -> Result<(), NoM
 
 /// A monomial without its sign.
 #[cycle(print_term)]
-pub(crate) fn push_mono(text: &mut Vec<u8>, layout: &Layout, mono: &Mono) -> Result<(), NoMemory>
-    ensures { OnOk result (text.new.items ≡ text.old.items ++ mono_text layout.now.ins layout.now.outs layout.now.names.now mono.now) }
+pub(crate) fn push_mono<N: TermNames>(
+    text: &mut Vec<u8>,
+    names: &N,
+    mono: &Mono,
+) -> Result<(), NoMemory>
+    ensures { OnOk result (text.new.items ≡ text.old.items ++ mono_text (N.naming names.now) mono.now) }
 {
     push_factor(text, mono.coef)?;
-    push_atom(text, layout, &mono.atom)
+    push_atom(text, names, &mono.atom)
 }
 
 #[cycle(print_term)]
-fn push_sum(
+fn push_sum<N: TermNames>(
     text: &mut Vec<u8>,
-    layout: &Layout,
+    names: &N,
     monos: &[Mono],
     constant: i64,
 ) -> Result<(), NoMemory>
-    ensures { OnOk result (text.new.items ≡ text.old.items ++ sum_from layout.now.ins layout.now.outs layout.now.names.now 0 monos.now constant) }
+    ensures { OnOk result (text.new.items ≡ text.old.items ++ sum_from (N.naming names.now) 0 monos.now constant) }
 {
     for (n, mono) in monos.iter().enumerate() {
         push_sign(text, n, mono.coef < 0)?;
-        push_mono(text, layout, mono)?;
+        push_mono(text, names, mono)?;
     }
     push_constant(text, monos.len(), constant)
 }
@@ -84,8 +70,8 @@ fn push_sum(
 /// Writes a term behind the text: its monomials and then its constant. Linear in it; recurses as deep as it nests.
 #[cycle(print_term)]
 #[tactic(auto, using(crate::proofs::PrintEquations::term_text_is))]
-pub fn push_term(text: &mut Vec<u8>, layout: &Layout, term: &Term) -> Result<(), NoMemory>
-    ensures { OnOk result (text.new.items ≡ text.old.items ++ term_text layout.now.ins layout.now.outs layout.now.names.now term.now) }
+pub fn push_term<N: TermNames>(text: &mut Vec<u8>, names: &N, term: &Term) -> Result<(), NoMemory>
+    ensures { OnOk result (text.new.items ≡ text.old.items ++ term_text (N.naming names.now) term.now) }
 {
-    push_sum(text, layout, term.monos.as_slice(), term.constant)
+    push_sum(text, names, term.monos.as_slice(), term.constant)
 }

@@ -4,10 +4,11 @@ ghost use Rattle.std.specs.Prelude.{◌≡◌, [], ◌++◌, codes, OnOk, IfOk};
 ghost use Rattle.std.specs.Option.{unwrap_or};
 ghost use Rattle.spf_reltext.specs.Printed.{body_text, conj_text, conjs_text, head_text, lead, none_text, parts_from, rel_text, set_text};
 
+use crate::layout::Layout;
 use crate::names::RelNames;
 use crate::print_parts::{push, push_lead, push_number, push_tuple, push_variables};
 use crate::print_sides::push_constraints;
-use crate::print_term::Layout;
+use crate::print_term::TermNames;
 use spf_base::NoMemory;
 use spf_rel::{Conj, Rel, Set};
 use std::alloc::Global;
@@ -33,16 +34,16 @@ fn push_head(text: &mut Vec<u8>, ins: u32, outs: Option<u32>) -> Result<(), NoMe
     }
 }
 
-fn push_body(text: &mut Vec<u8>, layout: &Layout, conj: &Conj) -> Result<(), NoMemory>
-    ensures { OnOk result (text.new.items ≡ text.old.items ++ body_text layout.now.ins layout.now.outs layout.now.names.now conj.now) }
+fn push_body<N: TermNames>(text: &mut Vec<u8>, names: &N, conj: &Conj) -> Result<(), NoMemory>
+    ensures { OnOk result (text.new.items ≡ text.old.items ++ body_text (N.naming names.now) conj.now) }
 {
-    push_constraints(text, layout, b" : ", b" = ", conj.equal.as_slice())?;
+    push_constraints(text, names, b" : ", b" = ", conj.equal.as_slice())?;
     let opening: &[u8] = if conj.equal.len() == 0 {
         b" : "
     } else {
         b" and "
     };
-    push_constraints(text, layout, opening, b" >= ", conj.least.as_slice())
+    push_constraints(text, names, opening, b" >= ", conj.least.as_slice())
 }
 
 fn push_conj(text: &mut Vec<u8>, frame: &Frame, conj: &Conj) -> Result<(), NoMemory>

@@ -64,7 +64,7 @@ fn plain_atom(source: &Source, name: &Name) -> Result<Atom, NoMemory>
     if contains(source.variables, name) {
         return Ok(Atom::Var(number_of(source.variables, name)?));
     }
-    Ok(Atom::Param(number_of(source.names.params.as_slice(), name)?))
+    Ok(Atom::Param(source.names.params.number_of(name)?))
 }
 
 fn push(monos: &mut Items<Mono>, minus: bool, number: u64, atom: Atom) -> Result<(), NoMemory>
@@ -91,7 +91,7 @@ fn push_mono(
         RawAtom::Unit => Ok(()),
         RawAtom::Plain(name) => push(monos, minus, number, plain_atom(source, name)?),
         RawAtom::Entry { name, at } => {
-            let fun = number_of(source.names.funs.as_slice(), name)?;
+            let fun = source.names.funs.number_of(name)?;
             let mut nested = Items::new(source.alloc);
             push_monos(source, false, at, &mut nested)?;
             let arg = Term {
