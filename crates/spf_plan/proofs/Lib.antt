@@ -1,5 +1,6 @@
 pub mod Chain
 pub mod Copies
+pub mod InPlace
 pub mod OnePlan
 pub mod OneStep
 pub mod Packings

@@ -16,6 +16,7 @@ use Rattle.spf_pack.specs.Packs.{CanPack, IsArrayOf}
 use Rattle.spf_plan.specs.Packed.{AreNextPackings, CanPackBy, IsOrderFor, IsPacked, is_listed, marked, repacked}
 use Rattle.spf_plan.specs.Planned.{ArePacksOf, IsPlanOf, Planned}
 use Rattle.spf_plan.specs.declared.packing.TouchOrder.{TouchOrder}
+use Rattle.spf_plan.proofs.InPlace.{packed_in_place}
 use Rattle.spf_plan.specs.declared.packing.TouchOrder.TheVariants.{Loop, Tiles}
 
 -- a listed array and all listed ones are as long as its packing
@@ -73,6 +74,8 @@ module _ (arrays : List ℕ) (IsPacking : ℕ → List ℕ → Type 0) where
     packed = packs_next shape plan.packs next is.packed packings;
     each_loop = is.each_loop;
     each_array = length-marked arrays plan.moved_arrays ∙ is.each_array;
+    loops_in_place = is.loops_in_place;
+    arrays_in_place = packed_in_place arrays IsPacking plan.moved_arrays plan.packs next (is.each_array ∙ sym is.packed.each_array) packings is.arrays_in_place;
   }
 
   -- where there is one packing of an array there is one plan

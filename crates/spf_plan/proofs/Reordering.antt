@@ -8,6 +8,7 @@ use Rattle.spf_space.specs.Places.{ArePlacesOf, order_of}
 use Rattle.spf_space.specs.declared.shape.LoopShape.{LoopShape}
 use Rattle.spf_space.specs.declared.shape.Shape.{Shape}
 use Rattle.spf_plan.specs.Planned.{AreLegal, IsPlanOf, Planned, reordered}
+use Rattle.spf_plan.proofs.InPlace.{reordered_in_place}
 
 -- the order of a loop, where one has been replaced
 order_there : (orders : List (List ℕ)) (of n : ℕ) (order : List ℕ) → of < length orders
@@ -47,4 +48,6 @@ plan_reordered touches shape plan of order is lt perm same legal = record {
   packed = is.packed;
   each_loop = length-set plan.moved_loops of _ ∙ is.each_loop;
   each_array = is.each_array;
+  loops_in_place = reordered_in_place plan.moved_loops plan.orders of order is.loops_in_place;
+  arrays_in_place = is.arrays_in_place;
 }

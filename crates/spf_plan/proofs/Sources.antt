@@ -18,6 +18,7 @@ use Rattle.spf_space.specs.declared.shape.Shape.{Shape}
 use Rattle.spf_space.specs.declared.unit.Unit.{Unit}
 use Rattle.spf_space.proofs.Placed.{unit_is, unit_there}
 use Rattle.spf_space.proofs.Textual.{follows}
+use Rattle.spf_plan.proofs.InPlace.{identities_in_place}
 use Rattle.spf_plan.specs.Planned.{AreLegal, IsPlanOf, source_orders, source_plan, units_in}
 
 -- identities of these sizes
@@ -82,4 +83,6 @@ module _ (shape : Shape) where
     };
     each_loop = length-replicate (length shape.loops) false;
     each_array = length-replicate (length shape.arrays) false;
+    loops_in_place = λ n off. identities_in_place (λ (each : LoopShape). each.extent) loops n;
+    arrays_in_place = λ n off. identities_in_place (λ (array : ArrayShape). array.length) shape.arrays n;
   }

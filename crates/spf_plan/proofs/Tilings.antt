@@ -52,6 +52,8 @@ module _ (touches : List (List Touch)) (shape : Shape) where
       packed = is.packed;
       each_loop = is.each_loop;
       each_array = is.each_array;
+      loops_in_place = is.loops_in_place;
+      arrays_in_place = is.arrays_in_place;
     }
 
 -- the iterations have parts where the positions have

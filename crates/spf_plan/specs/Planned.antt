@@ -43,6 +43,14 @@ pub record ArePacksOf (arrays : List ArrayShape) (packs : List (List ℕ)) : Typ
   pub lengths : (n : ℕ) (array : ArrayShape) → slice_get arrays n ≡ Some array → length (slice_index_or packs n []) ≡ array.length
   pub perms : (n : ℕ) → n < length packs → IsPerm (slice_index_or packs n [])
 
+-- each stays in its own place
+abbrev pub IsInPlace : List ℕ → Type 0
+IsInPlace perm = perm ≡ range_with_len 0 (length perm)
+
+-- those that aren't marked as moved stay in their own places
+abbrev pub OthersInPlace : List Bool → List (List ℕ) → Type 0
+OthersInPlace moved perms = (n : ℕ) → slice_index_or moved n true ≡ false → IsInPlace (slice_index_or perms n [])
+
 module _ (touches : List (List Touch)) (shape : Shape) where
   -- run in these tiles and orders, conflicting units keep their order
   abbrev pub AreLegal : List ℕ → List (List ℕ) → Type 0
@@ -58,6 +66,8 @@ module _ (touches : List (List Touch)) (shape : Shape) where
     pub packed : ArePacksOf shape.arrays plan.packs
     pub each_loop : length plan.moved_loops ≡ length shape.loops
     pub each_array : length plan.moved_arrays ≡ length shape.arrays
+    pub loops_in_place : OthersInPlace plan.moved_loops plan.orders
+    pub arrays_in_place : OthersInPlace plan.moved_arrays plan.packs
 
 -- the positions of each loop in the source's order
 abbrev pub source_orders : List LoopShape → List (List ℕ)
