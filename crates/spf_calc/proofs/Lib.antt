@@ -1,0 +1,11 @@
+pub mod Answering
+pub mod CalcTexts
+pub mod Depths
+pub mod Equations
+pub mod Kept
+pub mod OneResult
+pub mod Operands
+pub mod Outcomes
+pub mod Rooms
+pub mod Running
+pub mod Tests
