@@ -1,0 +1,9 @@
+pub mod BodyTerms
+pub mod Composed
+pub mod Executor
+pub mod Generated
+pub mod Meaning
+pub mod Moves
+pub mod Placeable
+pub mod Rewritten
+pub mod Running
