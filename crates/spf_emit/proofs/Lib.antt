@@ -1,0 +1,4 @@
+mod Counted
+mod Indents
+mod Same
+mod Values

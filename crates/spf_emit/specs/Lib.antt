@@ -1,0 +1,4 @@
+pub mod ComposedText
+pub mod Naming
+pub mod Places
+pub mod Text
