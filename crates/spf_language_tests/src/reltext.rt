@@ -1,8 +1,12 @@
+use spf_base::NoMemory;
 use spf_lex::{TextKind, tokens};
 use spf_rel::{Rel, Set};
-use spf_reltext::{RelNames, RelTextFault, Shape, parse_rel, parse_set, print_rel, print_set};
+use spf_reltext::{
+    RelNames, RelTextFault, Shape, TermNames, parse_rel, parse_set, print_rel, print_set, push_term,
+};
+use spf_term::{Atom, Mono, Term};
 use sqlite_items::Items;
-use std::alloc::Global;
+use std::alloc::{AllocError, Global};
 use std::process::Abort;
 use std::test::Fail;
 
@@ -151,5 +155,71 @@ fn what_has_no_conjunction_is_printed_with_its_arities(rt: HostRuntime) -> Resul
     };
     let text = print_set(rt.alloc(), &set, &names)?;
     assert_eq!(rt; text.as_slice(), b"none(3)".as_slice());
+    Ok(())
+}
+
+/// The names of an executor's terms: a position and an inner variable, and the order of a loop with the longest name.
+#[derive(Drop)]
+struct ExecutorNames {}
+
+impl TermNames for ExecutorNames {
+    ghost use Rattle.std.specs.Prelude.{◌==◌, if◌then◌else◌, codes};
+
+    ghost naming = { λ _. record {
+      variable = λ number. if number == 0 then codes "P" else codes "J";
+      param = λ number. codes "n";
+      fun = λ number. codes "O_abcdefghijklmnopqrstuvwxyzabcdef";
+    } };
+
+    fn push_variable(&self, text: &mut Vec<u8>, number: u32) -> Result<(), NoMemory> {
+        text.extend_from_slice(if number == 0 { b"P" } else { b"J" })?;
+        Ok(())
+    }
+
+    fn push_param(&self, text: &mut Vec<u8>, _number: u32) -> Result<(), NoMemory> {
+        text.extend_from_slice(b"n")?;
+        Ok(())
+    }
+
+    fn push_fun(&self, text: &mut Vec<u8>, _number: u32) -> Result<(), NoMemory> {
+        text.extend_from_slice(b"O_abcdefghijklmnopqrstuvwxyzabcdef")?;
+        Ok(())
+    }
+}
+
+/// An inner variable less a parameter and twice the order at a position.
+fn executor_term(alloc: Global) -> Result<Term, AllocError> {
+    let mut position = Items::new(alloc);
+    position.push(Mono {
+        coef: 1,
+        atom: Atom::Var(0),
+    })?;
+    let arg = Term {
+        monos: position,
+        constant: 1,
+    };
+    let mut monos = Items::new(alloc);
+    monos.push(Mono {
+        coef: 1,
+        atom: Atom::Var(1),
+    })?;
+    monos.push(Mono {
+        coef: -1,
+        atom: Atom::Param(0),
+    })?;
+    monos.push(Mono {
+        coef: -2,
+        atom: Atom::App { fun: 0, arg },
+    })?;
+    Ok(Term { monos, constant: 0 })
+}
+
+#[test]
+fn terms_are_printed_with_the_names_that_are_given(rt: HostRuntime) -> Result<(), Fail> {
+    let term = executor_term(rt.alloc())?;
+    let mut text = Vec::new(rt.alloc());
+    push_term(&mut text, &ExecutorNames {}, &term)?;
+    let wanted = b"J - n - 2 * O_abcdefghijklmnopqrstuvwxyzabcdef[P + 1]";
+    assert_eq!(rt; text.as_slice(), wanted.as_slice());
     Ok(())
 }
