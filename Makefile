@@ -24,9 +24,11 @@ try:
 cases: spf
 	cases/run bin/spf
 
-# How fast the proved program reads, beside `wc -w`, how fast it walks and runs, and what layers, orders and tiles cost.
+# How fast the proved program reads, beside `wc -w`, how fast it walks and runs, what layers, orders and tiles cost, and how fast it
+# calculates.
 bench: spf
 	bench/reading bin/spf
 	bench/running bin/spf
 	bench/ordering bin/spf
 	bench/tiling bin/spf
+	bench/calculating bin/spf

@@ -1,6 +1,6 @@
 -- What bytes answer is one thing, so that nothing but want of memory keeps a text from being written.
 use Rattle.std.proofs.Common.{◌≡◌, ℕ, ◌*◌, ◌≤◌, List, length, drop, Option, None, Some, IfSome, Result, Ok, Err, refl, sym, ap, subst, ◌∙◌, inl, inr, arith}
-use Rattle.std.specs.Prelude.{◌⊎◌}
+use Rattle.std.specs.Prelude.{◌⊎◌, ◌∷◌, [], if◌then◌else◌, nat_eq, slice_index_or}
 use Rattle.std.proofs.lemmas.Bool.{cases_lt}
 use Rattle.std.proofs.lemmas.List.{length-append, take-append-drop}
 use Rattle.spf_io.specs.Stream.{Takes}
@@ -12,6 +12,9 @@ use Rattle.spf_store.specs.Shaped.{IsShapeAnswer, loops_of, size}
 use Rattle.spf_store.specs.declared.shapes.ShapeFault.{ShapeFault}
 use Rattle.spf_store.specs.declared.shapes.ShapeFault.TheVariants as shape_is
 use Rattle.spf_access.specs.Answer.{IsAccessAnswer}
+use Rattle.spf_calc.specs.Answer.{IsCalcAnswer, IsResultOf}
+use Rattle.spf_calc.specs.declared.fault.CalcFault.{CalcFault}
+use Rattle.spf_calc.specs.declared.fault.CalcFault.TheVariants as calc_is
 use Rattle.spf_access.specs.declared.access_fault.AccessFault.TheVariants as access_is
 use Rattle.spf_script.specs.Resolved.{IsResolveAnswer}
 use Rattle.spf_script.specs.declared.resolved.Step.{Step}
@@ -32,11 +35,13 @@ use Rattle.spf_input.proofs.Stages.{one_then}
 use Rattle.spf_top.specs.declared.outcome.Outcome.{Outcome}
 use Rattle.spf_top.specs.declared.outcome.Outcome.TheVariants.{Done, Memory, Usage, ReadFault, WriteFault, Text, Kernel, Input, Range, Script, Illegal, Limit}
 use Rattle.spf_top.specs.declared.outcome.What.TheVariants.{Bytes}
-use Rattle.spf_top.specs.Outcome.{plan_refused, refused, script_refused, shape_refused, walk_refused}
-use Rattle.spf_top.specs.Words.{AsksFor, IsAccepted, IsRefusedAt}
+use Rattle.spf_top.specs.Outcome.{calc_refused, plan_refused, refused, script_refused, shape_refused, walk_refused}
+use Rattle.spf_top.specs.Words.{AsksFor, IsAccepted, IsRefusedAt, word_of}
 use Rattle.spf_top.specs.declared.words.Asked.{Asked}
-use Rattle.spf_top.specs.declared.words.Asked.TheVariants.{Run, Plan}
-use Rattle.spf_top.specs.Command.{AnswersWords, AnswersInput, HasLoopsOf, IsDoneOrMemory, IsOfBytes, answers, carries_out, compiles, executes, finishes, fits, measures, plans, reads, refusing, resolves, shows, walks}
+use Rattle.spf_top.specs.declared.words.Asked.TheVariants as asked_is
+use Rattle.spf_top.specs.declared.words.Goal.{Goal}
+use Rattle.spf_top.specs.declared.words.Goal.TheVariants.{Run, Plan}
+use Rattle.spf_top.specs.Command.{AnswersWords, AnswersInput, HasLoopsOf, IsDoneOrMemory, IsOfBytes, answers, calculates, carries_out, compiles, executes, finishes, fits, makes, measures, plans, reads, refusing, resolves, shows, walks}
 use Rattle.spf_top.proofs.PlanTexts.{one_plan_text}
 use Rattle.spf_top.proofs.Shapes.{same_shape}
 
@@ -48,12 +53,18 @@ not_refused words word accepted refused =
       | inr within ↦ refused.here within (drop word words, (accepted.0, take-append-drop word words ∙ accepted.1))
     ]
 
+-- the command whose word begins as the first one
+abbrev by_letter : List (List ℕ) → Asked
+by_letter words = if nat_eq (slice_index_or (slice_index_or words 0 []) 0 0) 99 then asked_is.Calc else if nat_eq (slice_index_or (slice_index_or words 0 []) 0 0) 112 then asked_is.Bundle Plan else asked_is.Bundle Run
+
+spelled : (asked : Asked) → by_letter (word_of asked ∷ []) ≡ asked
+spelled (asked_is.Bundle Run) = refl
+spelled (asked_is.Bundle Plan) = refl
+spelled asked_is.Calc = refl
+
 -- no words ask for two commands
 one_command : (words : List (List ℕ)) (asked other : Asked) → AsksFor words asked → AsksFor words other → asked ≡ other
-one_command words Run Run is is_too = refl
-one_command words Run Plan is is_too = let e = sym is ∙ is_too in absurd cc
-one_command words Plan Run is is_too = let e = sym is ∙ is_too in absurd cc
-one_command words Plan Plan is is_too = refl
+one_command words asked other is is_too = sym (spelled asked) ∙ ap by_letter (sym is ∙ is_too) ∙ spelled other
 
 -- ---- each stage has one answer
 
@@ -111,12 +122,12 @@ one_shows : OneAnswer Memory shows
 one_shows given text (Ok other) shown shown_too = inl (ap Ok (one_plan_text given.0.0.1 given.0.0.0.1 given.1 other text shown_too shown))
 one_shows given text (Err refusal) shown free = inr (ap Err free)
 
-one_finishes : (asked : Asked) → OneAnswer Memory (finishes asked)
+one_finishes : (goal : Goal) → OneAnswer Memory (finishes goal)
 one_finishes Run = one_executes
 one_finishes Plan = one_shows
 
--- each command may find no memory
-pub out_of_memory : (asked : Asked) (given : (((Bundle × Shape) × List (List Touch)) × List Step) × Planned) (refusal : Outcome) → refusal ≡ Memory → finishes asked given (Err refusal)
+-- each may find no memory
+pub out_of_memory : (goal : Goal) (given : (((Bundle × Shape) × List (List Touch)) × List Step) × Planned) (refusal : Outcome) → refusal ≡ Memory → finishes goal given (Err refusal)
 out_of_memory Run given refusal free = free
 out_of_memory Plan given refusal free = free
 
@@ -126,6 +137,7 @@ pub record Laws : Type 0 where
       (a ≡ b) ⊎ ((a ≡ Err script_is.Memory) ⊎ (b ≡ Err script_is.Memory))
   pub plan : (touches : List (List Touch)) (shape : Shape) (steps : List Step) (a b : Result Planned PlanFault) → IsPlanAnswer touches shape steps a → IsPlanAnswer touches shape steps b →
       (a ≡ b) ⊎ ((a ≡ Err plan_is.Memory) ⊎ (b ≡ Err plan_is.Memory))
+  pub calculation : (text results : List ℕ) (answer : Result (List ℕ) CalcFault) → IsResultOf text results → IsCalcAnswer text answer → (answer ≡ Ok results) ⊎ (answer ≡ Err calc_is.Memory)
 
 module _ (laws : Laws) where
   one_resolves : OneAnswer Memory resolves
@@ -134,17 +146,20 @@ module _ (laws : Laws) where
   one_plans : OneAnswer Memory plans
   one_plans = one_refusing plan_is.Memory plan_refused _ (λ given b result is is_too. by_law plan_is.Memory b result (laws.plan given.0.1 given.0.0.1 given.1 result (Ok b) is_too is))
 
-  one_carries_out : (asked : Asked) → OneAnswer Memory (carries_out asked)
-  one_carries_out asked =
-      one_then Memory (with_given walks) (with_given resolves then (with_given plans then finishes asked)) (one_with_given walks (one_refusing access_is.Memory walk_refused _ one_access))
-      (one_then Memory (with_given resolves) (with_given plans then finishes asked) (one_with_given resolves one_resolves) (one_then Memory (with_given plans) (finishes asked) (one_with_given plans one_plans) (one_finishes asked)))
+  one_carries_out : (goal : Goal) → OneAnswer Memory (carries_out goal)
+  one_carries_out goal =
+      one_then Memory (with_given walks) (with_given resolves then (with_given plans then finishes goal)) (one_with_given walks (one_refusing access_is.Memory walk_refused _ one_access))
+      (one_then Memory (with_given resolves) (with_given plans then finishes goal) (one_with_given resolves one_resolves) (one_then Memory (with_given plans) (finishes goal) (one_with_given plans one_plans) (one_finishes goal)))
+
+  one_makes : (asked : Asked) → OneAnswer Memory (makes asked)
+  one_makes (asked_is.Bundle goal) =
+      one_then Memory reads (compiles goal) one_reads
+      (one_then Memory (with_given measures) (carries_out goal) (one_with_given measures (one_refusing shape_is.Memory shape_refused _ one_shape)) (one_carries_out goal))
+  one_makes asked_is.Calc = one_refusing calc_is.Memory calc_refused IsCalcAnswer laws.calculation
 
   one_answers : (asked : Asked) → OneAnswer Memory (answers asked)
   unfolding answers
-  one_answers asked =
-      one_then Memory fits (reads then compiles asked) one_fits
-      (one_then Memory reads (compiles asked) one_reads
-      (one_then Memory (with_given measures) (carries_out asked) (one_with_given measures (one_refusing shape_is.Memory shape_refused _ one_shape)) (one_carries_out asked)))
+  one_answers asked = one_then Memory fits (makes asked) one_fits (one_makes asked)
 
 -- bytes for which a text is written are refused for want of memory alone
 refused_for_memory : Laws → (asked : Asked) (bytes text : List ℕ) (refusal : Outcome) → answers asked bytes (Ok text) → answers asked bytes (Err refusal) → refusal ≡ Memory
@@ -169,6 +184,14 @@ no_loops_measured bytes bundle refusal loops (fault, failed, same) = subst (λ (
   by : (fault : ShapeFault) → HasLoopsOf bytes (shape_refused fault) loops
   by (shape_is.Units count) names = absurd names
   by shape_is.Memory names = absurd names
+
+-- neither is one without results
+pub no_loops_calculated : (bytes : List ℕ) (refusal : Outcome) (loops : List LoopShape) → calculates bytes (Err refusal) → HasLoopsOf bytes refusal loops
+no_loops_calculated bytes refusal loops (fault, failed, same) = subst (λ (outcome : Outcome). HasLoopsOf bytes outcome loops) (sym same) (by fault) where
+  by : (fault : CalcFault) → HasLoopsOf bytes (calc_refused fault) loops
+  by (calc_is.Text place kind) names = absurd names
+  by (calc_is.Rule statement rule) names = absurd names
+  by calc_is.Memory names = absurd names
 
 -- ---- the call
 

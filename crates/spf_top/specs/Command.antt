@@ -1,6 +1,7 @@
 -- What one call of `command` means.
 use Rattle.std.specs.Prelude.{ℕ, ◌≡◌, ◌≤◌, ◌<◌, List, length, take, Option, Result, Ok, Err, ⊤}
 use Rattle.spf_access.specs.Answer.{IsAccessAnswer}
+use Rattle.spf_calc.specs.Answer.{IsCalcAnswer}
 use Rattle.spf_input.specs.Answer.{IsBundleAnswer}
 use Rattle.spf_input.specs.Stage.{◌then◌, with_given}
 use Rattle.spf_input.specs.declared.reading.Bundle.{Bundle}
@@ -16,12 +17,14 @@ use Rattle.spf_touch.specs.declared.touch.Touch.{Touch}
 use Rattle.spf_top.specs.declared.outcome.Outcome.{Outcome}
 use Rattle.spf_top.specs.declared.outcome.Outcome.TheVariants.{Done, Memory, Usage, ReadFault, WriteFault, Limit, Range, Illegal}
 use Rattle.spf_top.specs.declared.outcome.What.TheVariants.{Bytes}
-use Rattle.spf_top.specs.Outcome.{plan_refused, refused, script_refused, shape_refused, walk_refused}
+use Rattle.spf_top.specs.Outcome.{calc_refused, plan_refused, refused, script_refused, shape_refused, walk_refused}
 use Rattle.spf_top.specs.PlanText.{IsPlanText}
 use Rattle.spf_top.specs.Texts.{text_of}
 use Rattle.spf_top.specs.Words.{IsAccepted, IsRefusedAt}
 use Rattle.spf_top.specs.declared.words.Asked.{Asked}
-use Rattle.spf_top.specs.declared.words.Asked.TheVariants.{Run, Plan}
+use Rattle.spf_top.specs.declared.words.Asked.TheVariants as asked_is
+use Rattle.spf_top.specs.declared.words.Goal.{Goal}
+use Rattle.spf_top.specs.declared.words.Goal.TheVariants.{Run, Plan}
 
 -- ---- stages: each goes on with what it answers, or says why the bytes are refused
 
@@ -65,21 +68,30 @@ abbrev pub shows : (((Bundle × Shape) × List (List Touch)) × List Step) × Pl
 shows given (Ok text) = IsPlanText given.0.0.1 given.0.0.0.1 given.1 text
 shows given (Err refusal) = refusal ≡ Memory
 
--- what a command does with a plan
-abbrev pub finishes : Asked → (((Bundle × Shape) × List (List Touch)) × List Step) × Planned → Result (List ℕ) Outcome → Type 0
+-- what is done with a plan
+abbrev pub finishes : Goal → (((Bundle × Shape) × List (List Touch)) × List Step) × Planned → Result (List ℕ) Outcome → Type 0
 finishes Run = executes
 finishes Plan = shows
 
--- what it makes of a bundle of this shape, and of a bundle
-abbrev pub carries_out : Asked → Bundle × Shape → Result (List ℕ) Outcome → Type 0
-carries_out asked = with_given walks then (with_given resolves then (with_given plans then finishes asked))
+-- what is made of a bundle of this shape, and of a bundle
+abbrev pub carries_out : Goal → Bundle × Shape → Result (List ℕ) Outcome → Type 0
+carries_out goal = with_given walks then (with_given resolves then (with_given plans then finishes goal))
 
-abbrev pub compiles : Asked → Bundle → Result (List ℕ) Outcome → Type 0
-compiles asked = with_given measures then carries_out asked
+abbrev pub compiles : Goal → Bundle → Result (List ℕ) Outcome → Type 0
+compiles goal = with_given measures then carries_out goal
+
+-- the results of a calculator text
+abbrev pub calculates : List ℕ → Result (List ℕ) Outcome → Type 0
+calculates = refusing calc_refused IsCalcAnswer
+
+-- what a command makes of few enough bytes
+abbrev pub makes : Asked → List ℕ → Result (List ℕ) Outcome → Type 0
+makes (asked_is.Bundle goal) = reads then compiles goal
+makes asked_is.Calc = calculates
 
 -- what a command writes for these bytes, or why it refuses them: the stages in the order of refusals
 unfoldable pub answers : Asked → List ℕ → Result (List ℕ) Outcome → Type 0
-answers asked = fits then (reads then compiles asked)
+answers asked = fits then makes asked
 
 -- ---- the call
 

@@ -14,6 +14,8 @@ use Rattle.spf_plan.specs.declared.plan_fault.PlanFault.TheVariants as plan
 use Rattle.spf_base.specs.declared.place.Place.{Place}
 use Rattle.spf_lex.specs.declared.text_kind.TextKind.{TextKind}
 use Rattle.spf_lex.specs.declared.text_kind.TextKind.TheVariants as kind
+use Rattle.spf_calc.specs.declared.fault.CalcFault.{CalcFault}
+use Rattle.spf_calc.specs.declared.fault.CalcFault.TheVariants as calc
 use Rattle.spf_input.specs.declared.fault.InputFault.{InputFault}
 use Rattle.spf_input.specs.declared.fault.InputFault.TheVariants as input
 use Rattle.spf_top.specs.declared.outcome.Outcome.{Outcome}
@@ -49,6 +51,12 @@ script_refused script.Memory = Memory
 abbrev pub plan_refused : PlanFault → Outcome
 plan_refused (plan.Illegal step p q) = Illegal step p q
 plan_refused plan.Memory = Memory
+
+-- the outcome of a text that has no results
+abbrev pub calc_refused : CalcFault → Outcome
+calc_refused (calc.Text place kind) = Text place kind
+calc_refused (calc.Rule statement rule) = Script statement rule
+calc_refused calc.Memory = Memory
 
 abbrev pub status_of : Outcome → ℕ
 status_of Done = 0

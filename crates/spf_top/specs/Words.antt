@@ -1,12 +1,14 @@
 -- Which lists of words are accepted, what they ask for, and at which word a list is refused.
 use Rattle.std.specs.Prelude.{◌≡◌, ℕ, ◌+◌, ◌-◌, ◌≤◌, List, [], ◌∷◌, ◌++◌, length, take, codes}
 use Rattle.spf_top.specs.declared.words.Asked.{Asked}
-use Rattle.spf_top.specs.declared.words.Asked.TheVariants.{Run, Plan}
+use Rattle.spf_top.specs.declared.words.Asked.TheVariants.{Bundle, Calc}
+use Rattle.spf_top.specs.declared.words.Goal.TheVariants.{Run, Plan}
 
 -- the word of a command
 abbrev pub word_of : Asked → List ℕ
-word_of Run = codes "run"
-word_of Plan = codes "plan"
+word_of (Bundle Run) = codes "run"
+word_of (Bundle Plan) = codes "plan"
+word_of Calc = codes "calc"
 
 -- the words ask for this command: its word alone
 abbrev pub AsksFor : List (List ℕ) → Asked → Type 0

@@ -4,6 +4,7 @@ ghost use Rattle.std.specs.Prelude.{◌≡◌, ℕ, ◌≤◌, List, [], length,
 ghost use Rattle.spf_io.specs.Stream.{Rose};
 ghost use Rattle.spf_top.specs.Words.{AsksFor};
 ghost use Rattle.spf_top.specs.declared.words.Asked.{Asked};
+ghost use Rattle.spf_top.specs.declared.words.Asked.TheVariants as asked_is;
 ghost use Rattle.spf_top.specs.Outcome.{line_of};
 ghost use Rattle.spf_top.specs.Report.{AppendsOrFails};
 ghost use Rattle.spf_space.specs.declared.shape.LoopShape.{LoopShape};
@@ -13,9 +14,10 @@ ghost use Rattle.spf_top.specs.Kept.{IsKept};
 
 use crate::outcome::{Outcome, What, refusal};
 use crate::report::report;
-use crate::stages::{finish, kept, layered, measure, planned, resolved, walk};
-use crate::words::{Asked, asked_by};
+use crate::stages::{calculated, finish, kept, layered, measure, planned, resolved, walk};
+use crate::words::{Asked, Goal, asked_by};
 use spf_access::touched_elements_are_cells;
+use spf_calc::one_calculation;
 use spf_input::{Bundle, read_bundle};
 use spf_io::{Failed, ReadAll, Sink, Source, read_all, write_all};
 use spf_plan::one_plan_answer;
@@ -41,13 +43,13 @@ fn without_loops(alloc: Global, outcome: Outcome) -> Ended
     }
 }
 
-/// What the command writes for a bundle of this shape, or why it refuses it. Linear in the visits and in what it writes, and
+/// What is written for a bundle of this shape, or why it is refused. Linear in the visits and in what it writes, and
 /// what layers, orders, tests of legality and, for a plan's text, the order of the tiles cost.
-fn carry_out(alloc: Global, asked: Asked, bundle: Bundle, shape: &Shape) -> Result<Vec<u8>, Outcome>
+fn carry_out(alloc: Global, goal: Goal, bundle: Bundle, shape: &Shape) -> Result<Vec<u8>, Outcome>
     requires kept { IsKept bundle }
     requires shape { IsShapeOf bundle.env bundle.kernel shape.now }
-    ensures text { IfOk result (λ text. carries_out asked (bundle, shape.now) (Ok text.items)) }
-    ensures refused { IfErr result (λ refusal. carries_out asked (bundle, shape.now) (Err refusal)) }
+    ensures text { IfOk result (λ text. carries_out goal (bundle, shape.now) (Ok text.items)) }
+    ensures refused { IfErr result (λ refusal. carries_out goal (bundle, shape.now) (Err refusal)) }
     ensures of_bytes { IfErr result IsOfBytes }
 {
     touched_elements_are_cells();
@@ -67,17 +69,17 @@ fn carry_out(alloc: Global, asked: Asked, bundle: Bundle, shape: &Shape) -> Resu
         Ok(plan) => plan,
         Err(refusal) => return Err(refusal),
     };
-    match finish(alloc, asked, bundle, shape, &layers, &touches, &plan) {
+    match finish(alloc, goal, bundle, shape, &layers, &touches, &plan) {
         Ok(text) => Ok(text),
         Err(refusal) => Err(refusal),
     }
 }
 
-/// What the command writes for these bytes, or why it refuses them. Linear in the bytes, and what `carry_out` says.
-fn answer_bytes(alloc: Global, asked: Asked, bytes: &[u8]) -> Result<Vec<u8>, Ended>
+/// What is written for the bundle that these bytes are, or why they are refused. Linear in the bytes, and what `carry_out` says.
+fn answer_bundle(alloc: Global, goal: Goal, bytes: &[u8]) -> Result<Vec<u8>, Ended>
     requires { length bytes.now ≤ 67108864 }
-    ensures text { IfOk result (λ text. answers asked bytes.now (Ok text.items)) }
-    ensures refused { IfErr result (λ ended. answers asked bytes.now (Err ended.outcome)) }
+    ensures text { IfOk result (λ text. answers (asked_is.Bundle goal) bytes.now (Ok text.items)) }
+    ensures refused { IfErr result (λ ended. answers (asked_is.Bundle goal) bytes.now (Err ended.outcome)) }
     ensures of_bytes { IfErr result (λ ended. IsOfBytes ended.outcome) }
     ensures named { IfErr result (λ ended. HasLoopsOf bytes.now ended.outcome ended.shape.loops) }
 {
@@ -90,9 +92,26 @@ fn answer_bytes(alloc: Global, asked: Asked, bytes: &[u8]) -> Result<Vec<u8>, En
         Ok(shape) => shape,
         Err(outcome) => return Err(without_loops(alloc, outcome)),
     };
-    match carry_out(alloc, asked, bundle, &shape) {
+    match carry_out(alloc, goal, bundle, &shape) {
         Ok(text) => Ok(text),
         Err(outcome) => Err(Ended { outcome, shape }),
+    }
+}
+
+/// What the command writes for these bytes, or why it refuses them.
+fn answer_bytes(alloc: Global, asked: Asked, bytes: &[u8]) -> Result<Vec<u8>, Ended>
+    requires { length bytes.now ≤ 67108864 }
+    ensures text { IfOk result (λ text. answers asked bytes.now (Ok text.items)) }
+    ensures refused { IfErr result (λ ended. answers asked bytes.now (Err ended.outcome)) }
+    ensures of_bytes { IfErr result (λ ended. IsOfBytes ended.outcome) }
+    ensures named { IfErr result (λ ended. HasLoopsOf bytes.now ended.outcome ended.shape.loops) }
+{
+    match asked {
+        Asked::Bundle(goal) => answer_bundle(alloc, goal, bytes),
+        Asked::Calc => match calculated(alloc, bytes) {
+            Ok(text) => Ok(text),
+            Err(outcome) => Err(without_loops(alloc, outcome)),
+        },
     }
 }
 
@@ -132,7 +151,7 @@ fn answer<S: Source, K: Sink>(alloc: Global, words: &[String], source: &mut S, o
     }
 }
 
-/// Carries out the command that the words ask for: it reads the bundle from `source`, writes the command's text on `out` in
+/// Carries out the command that the words ask for: it reads the bundle or calculator text from `source`, writes the command's text on `out` in
 /// one piece, and a line for any other outcome than `Done` on `err`. Linear in the bytes, in the visits and in what it writes,
 /// beside what the script's steps and, for a plan's text, the order of the tiles cost.
 pub fn command<S: Source, K: Sink, E: Sink>(
@@ -166,6 +185,7 @@ pub fn command<S: Source, K: Sink, E: Sink>(
 {
     one_resolve_answer();
     one_plan_answer();
+    one_calculation();
     let ended = answer(alloc, words, source, out);
     report(err, &ended.outcome, &ended.shape);
     ended.outcome

@@ -2,10 +2,11 @@
 
 ghost use Rattle.std.specs.Prelude.{◌≡◌};
 ghost use Rattle.spf_top.specs.Command.{IsOfBytes};
-ghost use Rattle.spf_top.specs.Outcome.{plan_refused, refused, script_refused, shape_refused, status_of, walk_refused};
+ghost use Rattle.spf_top.specs.Outcome.{calc_refused, plan_refused, refused, script_refused, shape_refused, status_of, walk_refused};
 
 use spf_access::AccessFault;
 use spf_base::{Name, Place};
+use spf_calc::CalcFault;
 use spf_input::InputFault;
 use spf_lex::TextKind;
 use spf_plan::PlanFault;
@@ -41,7 +42,7 @@ pub enum Outcome {
     ReadFault,
     /// The sink failed; a front of the text was written.
     WriteFault,
-    /// No token stands there, or the token there, or the end, is the first that no bundle has there.
+    /// No token stands there, or the token there, or the end, is the first that no bundle has there, or no calculator text.
     Text {
         place: Place,
         kind: TextKind,
@@ -64,7 +65,8 @@ pub enum Outcome {
         site: u32,
         value: i64,
     },
-    /// This step of the script, counted from 1, is the first that breaks a rule, and this is the least that it breaks.
+    /// This step of the script, or statement of the calculator text, counted from 1, is the first that breaks a rule, and this
+    /// is the least that it breaks.
     Script {
         step: u32,
         rule: u32,
@@ -157,6 +159,21 @@ pub fn plan_refusal(fault: PlanFault) -> Outcome
     match fault {
         PlanFault::Illegal { step, p, q } => Outcome::Illegal { step, p, q },
         PlanFault::Memory => Outcome::Memory,
+    }
+}
+
+/// The outcome of a text that has no results.
+pub fn calc_refusal(fault: CalcFault) -> Outcome
+    ensures refused { result ≡ calc_refused fault }
+    ensures of_bytes { IsOfBytes result }
+{
+    match fault {
+        CalcFault::Text { place, kind } => Outcome::Text { place, kind },
+        CalcFault::Rule { statement, rule } => Outcome::Script {
+            step: statement,
+            rule,
+        },
+        CalcFault::Memory => Outcome::Memory,
     }
 }
 

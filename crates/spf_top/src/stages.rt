@@ -1,6 +1,6 @@
-//! The stages of a command behind the reading of a bundle: each goes on, or answers why the bundle is refused.
+//! The stages of a command: each goes on, or answers why the bytes are refused.
 
-ghost use Rattle.std.specs.Prelude.{◌≡◌, ◌<◌, ℕ, List, All, length, None, Ok, IfOk, IfErr, OnOk};
+ghost use Rattle.std.specs.Prelude.{◌≡◌, ◌<◌, ◌≤◌, ℕ, List, All, length, None, Ok, Err, IfOk, IfErr, OnOk};
 ghost use Rattle.spf_access.specs.Answer.{IsAccessAnswer};
 ghost use Rattle.spf_input.specs.Answer.{IsBundleAnswer};
 ghost use Rattle.spf_input.specs.declared.reading.Bundle.{Bundle};
@@ -20,18 +20,21 @@ ghost use Rattle.spf_store.specs.Source.{source_result};
 ghost use Rattle.spf_touch.specs.Frame.{IsTouched};
 ghost use Rattle.spf_touch.specs.Repeated.{touches_at};
 ghost use Rattle.spf_touch.specs.declared.touch.Touch.{Touch};
-ghost use Rattle.spf_top.specs.Command.{IsOfBytes, finishes, measures, plans, resolves, walks};
+ghost use Rattle.spf_top.specs.Command.{IsOfBytes, calculates, finishes, measures, plans, resolves, walks};
 ghost use Rattle.spf_top.specs.Kept.{IsKept};
 ghost use Rattle.spf_top.specs.PlanText.{IsPlanText};
 ghost use Rattle.spf_top.specs.Texts.{cell_of, text_of};
 ghost use Rattle.spf_top.specs.declared.outcome.Outcome.TheVariants.{Memory};
 
-use crate::outcome::{Outcome, plan_refusal, script_refusal, shape_refusal, walk_refusal};
+use crate::outcome::{
+    Outcome, calc_refusal, plan_refusal, script_refusal, shape_refusal, walk_refusal,
+};
 use crate::plan_text::plan_text;
 use crate::text::arrays_text;
-use crate::words::Asked;
+use crate::words::Goal;
 use spf_access::{accesses, no_fault_is_in_range, touched_elements_are_cells};
 use spf_base::NoMemory;
+use spf_calc::calculate;
 use spf_input::{Bundle, kept_input_is_accepted};
 use spf_kernel::Kernel;
 use spf_layers::Layers;
@@ -54,6 +57,19 @@ pub fn kept(bundle: &Bundle)
 {
     kept_input_is_accepted();
     let _tree = bundle.kernel.tree();
+}
+
+/// The results of a calculator text. It costs what its operations cost.
+pub fn calculated(alloc: Global, text: &[u8]) -> Result<Vec<u8>, Outcome>
+    requires { length text.now ≤ 67108864 }
+    ensures text { IfOk result (λ results. calculates text.now (Ok results.items)) }
+    ensures refused { IfErr result (λ refusal. calculates text.now (Err refusal)) }
+    ensures of_bytes { IfErr result IsOfBytes }
+{
+    match calculate(alloc, text) {
+        Ok(results) => Ok(results),
+        Err(fault) => Err(calc_refusal(fault)),
+    }
 }
 
 /// The shape of a bundle's loops and arrays, if there are few enough units. Linear in the kernel.
@@ -218,10 +234,10 @@ fn execute(
     }
 }
 
-/// What the command does with the plan: it runs the units and gives the text of the arrays, or gives the text of the plan.
+/// Runs the units as the plan says and gives the text of the arrays, or gives the text of the plan.
 pub fn finish(
     alloc: Global,
-    asked: Asked,
+    goal: Goal,
     bundle: Bundle,
     shape: &Shape,
     layers: &Layers,
@@ -233,11 +249,11 @@ pub fn finish(
     requires walked { IsAccessAnswer bundle.env bundle.kernel shape.now.steps (Ok touches.now) }
     requires parts { BelongTogether layers.now touches.now shape.now }
     requires plan { IsPlanOf touches.now shape.now plan.now }
-    ensures text { IfOk result (λ text. (steps : List Step) → finishes asked ((((bundle, shape.now), touches.now), steps), plan.now) (Ok text.items)) }
+    ensures text { IfOk result (λ text. (steps : List Step) → finishes goal ((((bundle, shape.now), touches.now), steps), plan.now) (Ok text.items)) }
     ensures refused { IfErr result (λ refusal. refusal ≡ Memory) }
 {
-    match asked {
-        Asked::Run => execute(alloc, bundle, shape, touches, plan),
-        Asked::Plan => show(alloc, shape, layers, touches, plan),
+    match goal {
+        Goal::Run => execute(alloc, bundle, shape, touches, plan),
+        Goal::Plan => show(alloc, shape, layers, touches, plan),
     }
 }

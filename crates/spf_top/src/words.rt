@@ -4,13 +4,22 @@ ghost use Rattle.std.specs.Prelude.{◌≡◌, map, IfOk, IfErr, IfSome, IfNone,
 ghost use Rattle.spf_top.specs.Words.{AsksFor, IsRefusedAt, word_of};
 ghost use Rattle.spf_top.specs.declared.words.Asked.{Asked};
 
-/// A command, which one word asks for.
+/// What a bundle is planned for.
 #[derive(Clone, Copy)]
-pub enum Asked {
+pub enum Goal {
     /// The cells that the loops leave.
     Run,
     /// The orders, packings and tiles of the plan.
     Plan,
+}
+
+/// A command, which one word asks for.
+#[derive(Clone, Copy)]
+pub enum Asked {
+    /// A bundle is planned.
+    Bundle(Goal),
+    /// The results of a calculator text.
+    Calc,
 }
 
 /// The command of this word.
@@ -19,8 +28,9 @@ fn command_of(word: &str) -> Option<Asked>
     ensures unknown { IfNone result ((asked : Asked) → word.now ≡ word_of asked → ⊥) }
 {
     match word {
-        "run" => Some(Asked::Run),
-        "plan" => Some(Asked::Plan),
+        "run" => Some(Asked::Bundle(Goal::Run)),
+        "plan" => Some(Asked::Bundle(Goal::Plan)),
+        "calc" => Some(Asked::Calc),
         _ => None,
     }
 }

@@ -48,4 +48,4 @@ returns-clause-refused c =
     let steps : ((Bundle × Shape) × List (List Touch)) × List Step = (given, c.in-Ok-resolved.steps) in
     let made = rw c.as_slice.ensures at c.in-Ok-planned.ensures.answer in
     let planned : (((Bundle × Shape) × List (List Touch)) × List Step) × Planned = (steps, c.in-Ok-planned.plan) in
-    inr (given, (refl, c.in-Ok.ensures.answer), inr (steps, (refl, c.in-Ok-resolved.ensures.answer c.in-Ok.touches), inr (planned, (refl, made c.args.bundle), out_of_memory c.args.asked planned c.in-Err-finish.refusal c.in-Err-finish.ensures.refused)))
+    inr (given, (refl, c.in-Ok.ensures.answer), inr (steps, (refl, c.in-Ok-resolved.ensures.answer c.in-Ok.touches), inr (planned, (refl, made c.args.bundle), out_of_memory c.args.goal planned c.in-Err-finish.refusal c.in-Err-finish.ensures.refused)))
