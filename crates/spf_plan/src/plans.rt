@@ -260,11 +260,32 @@ impl Plan {
         &self.packs.as_slice()[array as usize]
     }
 
+    /// The packings of all arrays, by their numbers.
+    pub fn packs(&self) -> &[Perm]
+        ensures { result.now ≡ self.now.packs }
+    {
+        self.packs.as_slice()
+    }
+
     /// How many tiles there are.
     pub fn tiles(&self) -> u32
         ensures { result ≡ self.now.count }
     {
         self.tiles
+    }
+
+    /// Of each loop whether it has another order than the source's, or may have.
+    pub fn moved_loops(&self) -> &[bool]
+        ensures { result.now ≡ self.now.moved_loops }
+    {
+        self.moved_loops.as_slice()
+    }
+
+    /// Of each array whether it has other places than its own, or may have.
+    pub fn moved_arrays(&self) -> &[bool]
+        ensures { result.now ≡ self.now.moved_arrays }
+    {
+        self.moved_arrays.as_slice()
     }
 
     /// Whether the loop has another order than the source's, or may have.

@@ -15,7 +15,7 @@ use spf_touch::Touches;
 use std::alloc::Global;
 
 /// The same permutation again. Linear in the elements.
-pub(crate) fn copied(alloc: Global, perm: &Perm) -> Result<Perm, NoMemory>
+pub fn copied(alloc: Global, perm: &Perm) -> Result<Perm, NoMemory>
     ensures { IfOk result (λ copy. copy ≡ perm.now) }
 {
     match identity(alloc, perm.len())?.then(alloc, perm) {
