@@ -1,0 +1,2 @@
+mod PlanMoves
+mod PlanParts
