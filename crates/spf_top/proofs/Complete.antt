@@ -40,8 +40,8 @@ use Rattle.spf_top.specs.Words.{AsksFor, IsAccepted, IsRefusedAt, word_of}
 use Rattle.spf_top.specs.declared.words.Asked.{Asked}
 use Rattle.spf_top.specs.declared.words.Asked.TheVariants as asked_is
 use Rattle.spf_top.specs.declared.words.Goal.{Goal}
-use Rattle.spf_top.specs.declared.words.Goal.TheVariants.{Run, Plan}
-use Rattle.spf_top.specs.Command.{AnswersWords, AnswersInput, HasLoopsOf, IsDoneOrMemory, IsOfBytes, answers, calculates, carries_out, compiles, executes, finishes, fits, makes, measures, plans, reads, refusing, resolves, shows, walks}
+use Rattle.spf_top.specs.declared.words.Goal.TheVariants.{Run, Plan, Emit}
+use Rattle.spf_top.specs.Command.{AnswersWords, AnswersInput, HasLoopsOf, IsDoneOrMemory, IsOfBytes, answers, calculates, carries_out, compiles, emits, executes, finishes, fits, makes, measures, plans, reads, refusing, resolves, shows, walks}
 use Rattle.spf_top.proofs.PlanTexts.{one_plan_text}
 use Rattle.spf_top.proofs.Shapes.{same_shape}
 
@@ -55,11 +55,12 @@ not_refused words word accepted refused =
 
 -- the command whose word begins as the first one
 abbrev by_letter : List (List ℕ) → Asked
-by_letter words = if nat_eq (slice_index_or (slice_index_or words 0 []) 0 0) 99 then asked_is.Calc else if nat_eq (slice_index_or (slice_index_or words 0 []) 0 0) 112 then asked_is.Bundle Plan else asked_is.Bundle Run
+by_letter words = if nat_eq (slice_index_or (slice_index_or words 0 []) 0 0) 99 then asked_is.Calc else if nat_eq (slice_index_or (slice_index_or words 0 []) 0 0) 112 then asked_is.Bundle Plan else if nat_eq (slice_index_or (slice_index_or words 0 []) 0 0) 101 then asked_is.Bundle Emit else asked_is.Bundle Run
 
 spelled : (asked : Asked) → by_letter (word_of asked ∷ []) ≡ asked
 spelled (asked_is.Bundle Run) = refl
 spelled (asked_is.Bundle Plan) = refl
+spelled (asked_is.Bundle Emit) = refl
 spelled asked_is.Calc = refl
 
 -- no words ask for two commands
@@ -122,14 +123,20 @@ one_shows : OneAnswer Memory shows
 one_shows given text (Ok other) shown shown_too = inl (ap Ok (one_plan_text given.0.0.1 given.0.0.0.1 given.1 other text shown_too shown))
 one_shows given text (Err refusal) shown free = inr (ap Err free)
 
+one_emits : OneAnswer Memory emits
+one_emits given text (Ok other) emitted emitted_too = inl (ap Ok (emitted_too ∙ sym emitted))
+one_emits given text (Err refusal) emitted free = inr (ap Err free)
+
 one_finishes : (goal : Goal) → OneAnswer Memory (finishes goal)
 one_finishes Run = one_executes
 one_finishes Plan = one_shows
+one_finishes Emit = one_emits
 
 -- each may find no memory
 pub out_of_memory : (goal : Goal) (given : (((Bundle × Shape) × List (List Touch)) × List Step) × Planned) (refusal : Outcome) → refusal ≡ Memory → finishes goal given (Err refusal)
 out_of_memory Run given refusal free = free
 out_of_memory Plan given refusal free = free
+out_of_memory Emit given refusal free = free
 
 -- the laws of the layers below
 pub record Laws : Type 0 where

@@ -2,10 +2,12 @@
 use Rattle.std.specs.Prelude.{ℕ, ◌≡◌, ◌≤◌, ◌<◌, List, length, take, Option, Result, Ok, Err, ⊤}
 use Rattle.spf_access.specs.Answer.{IsAccessAnswer}
 use Rattle.spf_calc.specs.Answer.{IsCalcAnswer}
+use Rattle.spf_emit.specs.ComposedText.{composed_text}
 use Rattle.spf_input.specs.Answer.{IsBundleAnswer}
 use Rattle.spf_input.specs.Stage.{◌then◌, with_given}
 use Rattle.spf_input.specs.declared.reading.Bundle.{Bundle}
 use Rattle.spf_io.specs.Stream.{Appends}
+use Rattle.spf_job.specs.PlanMoves.{moved_of}
 use Rattle.spf_plan.specs.Planned.{Planned}
 use Rattle.spf_plan.specs.Taken.{IsPlanAnswer}
 use Rattle.spf_script.specs.Resolved.{IsResolveAnswer}
@@ -24,7 +26,7 @@ use Rattle.spf_top.specs.Words.{IsAccepted, IsRefusedAt}
 use Rattle.spf_top.specs.declared.words.Asked.{Asked}
 use Rattle.spf_top.specs.declared.words.Asked.TheVariants as asked_is
 use Rattle.spf_top.specs.declared.words.Goal.{Goal}
-use Rattle.spf_top.specs.declared.words.Goal.TheVariants.{Run, Plan}
+use Rattle.spf_top.specs.declared.words.Goal.TheVariants.{Run, Plan, Emit}
 
 -- ---- stages: each goes on with what it answers, or says why the bytes are refused
 
@@ -68,10 +70,16 @@ abbrev pub shows : (((Bundle × Shape) × List (List Touch)) × List Step) × Pl
 shows given (Ok text) = IsPlanText given.0.0.1 given.0.0.0.1 given.1 text
 shows given (Err refusal) = refusal ≡ Memory
 
+-- the text of the executor of the plan, in composed and packed terms
+abbrev pub emits : (((Bundle × Shape) × List (List Touch)) × List Step) × Planned → Result (List ℕ) Outcome → Type 0
+emits given (Ok text) = text ≡ composed_text given.0.0.0.0.kernel (moved_of given.1) given.1.count given.0.0.0.1.steps
+emits given (Err refusal) = refusal ≡ Memory
+
 -- what is done with a plan
 abbrev pub finishes : Goal → (((Bundle × Shape) × List (List Touch)) × List Step) × Planned → Result (List ℕ) Outcome → Type 0
 finishes Run = executes
 finishes Plan = shows
+finishes Emit = emits
 
 -- what is made of a bundle of this shape, and of a bundle
 abbrev pub carries_out : Goal → Bundle × Shape → Result (List ℕ) Outcome → Type 0

@@ -2,12 +2,13 @@
 use Rattle.std.specs.Prelude.{◌≡◌, ℕ, ◌+◌, ◌-◌, ◌≤◌, List, [], ◌∷◌, ◌++◌, length, take, codes}
 use Rattle.spf_top.specs.declared.words.Asked.{Asked}
 use Rattle.spf_top.specs.declared.words.Asked.TheVariants.{Bundle, Calc}
-use Rattle.spf_top.specs.declared.words.Goal.TheVariants.{Run, Plan}
+use Rattle.spf_top.specs.declared.words.Goal.TheVariants.{Run, Plan, Emit}
 
 -- the word of a command
 abbrev pub word_of : Asked → List ℕ
 word_of (Bundle Run) = codes "run"
 word_of (Bundle Plan) = codes "plan"
+word_of (Bundle Emit) = codes "emit"
 word_of Calc = codes "calc"
 
 -- the words ask for this command: its word alone

@@ -1,29 +1,24 @@
 //! The stages of a command: each goes on, or answers why the bytes are refused.
 
-ghost use Rattle.std.specs.Prelude.{◌≡◌, ◌<◌, ◌≤◌, ℕ, List, All, length, None, Ok, Err, IfOk, IfErr, OnOk};
+ghost use Rattle.std.specs.Prelude.{◌≡◌, ◌<◌, ◌≤◌, ℕ, List, All, length, Ok, Err, IfOk, IfErr};
 ghost use Rattle.spf_access.specs.Answer.{IsAccessAnswer};
+ghost use Rattle.spf_emit.specs.ComposedText.{composed_text};
 ghost use Rattle.spf_input.specs.Answer.{IsBundleAnswer};
 ghost use Rattle.spf_input.specs.declared.reading.Bundle.{Bundle};
-ghost use Rattle.spf_layers.specs.Legality.{IsLegal};
+ghost use Rattle.spf_job.specs.PlanMoves.{moved_of};
 ghost use Rattle.spf_plan.specs.Planned.{IsPlanOf};
 ghost use Rattle.spf_plan.specs.Taken.{BelongTogether};
 ghost use Rattle.spf_script.specs.Resolved.{IsStepFor, TilesOnce};
 ghost use Rattle.spf_script.specs.declared.resolved.Step.{Step};
 ghost use Rattle.spf_space.specs.Layout.{cells_in, iterations};
-ghost use Rattle.spf_space.specs.Places.{ArePlacesOf, place_of};
-ghost use Rattle.spf_space.specs.Units.{units_of};
-ghost use Rattle.spf_store.specs.Accepted.{IsAccepted};
-ghost use Rattle.spf_store.specs.Accesses.{touches_of};
-ghost use Rattle.spf_store.specs.FirstFault.{first_fault};
-ghost use Rattle.spf_store.specs.Shaped.{IsShapeOf, data_of};
-ghost use Rattle.spf_store.specs.Source.{source_result};
+ghost use Rattle.spf_store.specs.Shaped.{IsShapeOf};
 ghost use Rattle.spf_touch.specs.Frame.{IsTouched};
 ghost use Rattle.spf_touch.specs.Repeated.{touches_at};
 ghost use Rattle.spf_touch.specs.declared.touch.Touch.{Touch};
 ghost use Rattle.spf_top.specs.Command.{IsOfBytes, calculates, finishes, measures, plans, resolves, walks};
 ghost use Rattle.spf_top.specs.Kept.{IsKept};
 ghost use Rattle.spf_top.specs.PlanText.{IsPlanText};
-ghost use Rattle.spf_top.specs.Texts.{cell_of, text_of};
+ghost use Rattle.spf_top.specs.Texts.{text_of};
 ghost use Rattle.spf_top.specs.declared.outcome.Outcome.TheVariants.{Memory};
 
 use crate::outcome::{
@@ -32,19 +27,19 @@ use crate::outcome::{
 use crate::plan_text::plan_text;
 use crate::text::arrays_text;
 use crate::words::Goal;
-use spf_access::{accesses, no_fault_is_in_range, touched_elements_are_cells};
+use spf_access::{accesses, no_fault_is_in_range};
 use spf_base::NoMemory;
 use spf_calc::calculate;
+use spf_emit::{emit, generated_programs_are_written_composed, generated_programs_have_all_terms};
+use spf_exec::generate;
 use spf_input::{Bundle, kept_input_is_accepted};
+use spf_job::{moved, run_tiles};
 use spf_kernel::Kernel;
 use spf_layers::Layers;
-use spf_legal::run_placed;
 use spf_plan::{Plan, plan};
 use spf_script::{Step, resolve};
-use spf_source::{SourceUnits, ascending_units_are_the_source};
-use spf_space::{Places, Shape};
-use spf_store::{Store, shape};
-use spf_term::Env;
+use spf_space::Shape;
+use spf_store::shape;
 use spf_tiles::tile_order;
 use spf_touch::Touches;
 use sqlite_items::Items;
@@ -169,60 +164,62 @@ fn show(
     }
 }
 
-/// Runs all units in the order of their places, which leaves the source result. Linear in the visits, and what ordering the
-/// units costs.
-fn run_units(
+/// The text of the plan's executor. Linear in the text, with the terms of the kernel and a copy of what the plan has moved.
+fn executor_text(
     alloc: Global,
     kernel: &Kernel,
-    env: &Env,
     shape: &Shape,
-    touches: &Touches,
-    places: &Places,
-    store: &mut Store,
-) -> Result<(), NoMemory>
-    requires accepted { IsAccepted env.now kernel.now }
-    requires shape { IsShapeOf env.now kernel.now shape.now }
-    requires fault { first_fault env.now kernel.now shape.now.steps ≡ None }
-    requires touches { touches.now ≡ touches_of env.now kernel.now shape.now.steps }
-    requires arrays { store.old.arrays ≡ data_of env.now kernel.now }
-    requires places { ArePlacesOf shape.now.steps shape.now.loops places.now.tiles places.now.orders }
-    requires legal { IsLegal (touches_at touches.now) (place_of shape.now.steps shape.now.loops places.now.tiles places.now.orders) (length (units_of shape.now.steps shape.now.loops)) }
-    ensures arrays { OnOk result (store.new.arrays ≡ store.old.arrays) }
-    ensures count { OnOk result (length store.new.cells ≡ length store.old.cells) }
-    ensures cells { OnOk result ((e : ℕ) → cell_of store.new e ≡ source_result env.now kernel.now shape.now.steps (cell_of store.old) e) }
+    plan: &Plan,
+) -> Result<Vec<u8>, NoMemory>
+    requires { (touches : List (List Touch)) × IsPlanOf touches shape.now plan.now }
+    ensures { IfOk result (λ text. text.items ≡ composed_text kernel.now (moved_of plan.now) plan.now.count shape.now.steps) }
 {
-    no_fault_is_in_range();
-    touched_elements_are_cells();
-    ascending_units_are_the_source();
-    let _arrays = store.arrays.as_slice();
-    let units = SourceUnits::of(kernel, env, shape, touches);
-    run_placed(alloc, &units, touches, shape, places, store)?;
-    Ok(())
+    generated_programs_have_all_terms();
+    generated_programs_are_written_composed();
+    let moved = moved(alloc, shape, plan)?;
+    let program = generate(alloc, kernel, &moved)?;
+    emit(alloc, &program, kernel, plan.tiles(), shape.steps)
 }
 
-/// Runs a bundle's units as the plan says, and gives the text of the arrays. Linear in the visits and the cells, and what
-/// ordering the units costs.
+/// The same, with want of memory as an outcome.
+fn write(alloc: Global, kernel: &Kernel, shape: &Shape, plan: &Plan) -> Result<Vec<u8>, Outcome>
+    requires { (touches : List (List Touch)) × IsPlanOf touches shape.now plan.now }
+    ensures text { IfOk result (λ text. text.items ≡ composed_text kernel.now (moved_of plan.now) plan.now.count shape.now.steps) }
+    ensures refused { IfErr result (λ refusal. refusal ≡ Memory) }
+{
+    match executor_text(alloc, kernel, shape, plan) {
+        Ok(text) => Ok(text),
+        Err(NoMemory) => Err(Outcome::Memory),
+    }
+}
+
+/// Runs the job of the plan on a bundle's cells, and gives the text of the arrays. Linear in the visits and the cells, and what
+/// `run_tiles` costs.
 fn execute(
     alloc: Global,
     mut bundle: Bundle,
     shape: &Shape,
+    layers: &Layers,
     touches: &Touches,
     plan: &Plan,
 ) -> Result<Vec<u8>, Outcome>
     requires kept { IsKept bundle }
     requires shape { IsShapeOf bundle.env bundle.kernel shape.now }
     requires walked { IsAccessAnswer bundle.env bundle.kernel shape.now.steps (Ok touches.now) }
+    requires parts { BelongTogether layers.now touches.now shape.now }
     requires plan { IsPlanOf touches.now shape.now plan.now }
     ensures text { IfOk result (λ text. text.items ≡ text_of bundle) }
     ensures refused { IfErr result (λ refusal. refusal ≡ Memory) }
 {
-    match run_units(
+    no_fault_is_in_range();
+    match run_tiles(
         alloc,
         &bundle.kernel,
         &bundle.env,
         shape,
         touches,
-        plan.places(),
+        layers,
+        plan,
         &mut bundle.store,
     ) {
         Ok(()) => {}
@@ -234,7 +231,7 @@ fn execute(
     }
 }
 
-/// Runs the units as the plan says and gives the text of the arrays, or gives the text of the plan.
+/// Runs the job of the plan and gives the text of the arrays, or gives the text of the plan, or of its executor.
 pub fn finish(
     alloc: Global,
     goal: Goal,
@@ -253,7 +250,8 @@ pub fn finish(
     ensures refused { IfErr result (λ refusal. refusal ≡ Memory) }
 {
     match goal {
-        Goal::Run => execute(alloc, bundle, shape, touches, plan),
+        Goal::Run => execute(alloc, bundle, shape, layers, touches, plan),
         Goal::Plan => show(alloc, shape, layers, touches, plan),
+        Goal::Emit => write(alloc, &bundle.kernel, shape, plan),
     }
 }

@@ -11,6 +11,8 @@ pub enum Goal {
     Run,
     /// The orders, packings and tiles of the plan.
     Plan,
+    /// The text of the plan's executor.
+    Emit,
 }
 
 /// A command, which one word asks for.
@@ -30,6 +32,7 @@ fn command_of(word: &str) -> Option<Asked>
     match word {
         "run" => Some(Asked::Bundle(Goal::Run)),
         "plan" => Some(Asked::Bundle(Goal::Plan)),
+        "emit" => Some(Asked::Bundle(Goal::Emit)),
         "calc" => Some(Asked::Calc),
         _ => None,
     }
