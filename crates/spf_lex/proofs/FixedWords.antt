@@ -32,13 +32,13 @@ abbrev is_small_word : List ℕ → Bool
 is_small_word [] = false
 is_small_word (b ∷ bs) = (is_small b && list_all is_small bs) && nat_le (length (b ∷ bs)) 32
 
-abbrev is_symbol : List ℕ → Bool
+abbrev pub is_symbol : List ℕ → Bool
 is_symbol word = list_any (bytes_eq word) symbols
 
 small_letter : (b : ℕ) → is_small b ≡ true → IsLetter b
 small_letter b e = grind (arith, nat_tests)
 
-small_word : (word : List ℕ) → is_small_word word ≡ true → IsName word
+pub small_word : (word : List ℕ) → is_small_word word ≡ true → IsName word
 small_word [] e = absurd cc
 small_word (b ∷ bs) e =
     let parts = and_parts (is_small b && list_all is_small bs) (nat_le (length (b ∷ bs)) 32) e in
@@ -48,16 +48,16 @@ small_word (b ∷ bs) e =
       short = leb-true (length (b ∷ bs)) 32 parts.1;
     }
 
-a_symbol : (word : List ℕ) → is_symbol word ≡ true → Contains symbols word
+pub a_symbol : (word : List ℕ) → is_symbol word ≡ true → Contains symbols word
 a_symbol word e = Contains-from_any {eq = bytes_eq} (λ xs ys same. (bytes_eq-Decides xs ys).0 same) word symbols e
 
-name_token : (word : List ℕ) → IsName word → IsTokenText word
+pub name_token : (word : List ℕ) → IsName word → IsTokenText word
 name_token word name = record {
   lexeme = inl name.word;
   limits = record { word = λ _. name.short; number = λ number. absurd (word_no_number word name.word number) };
 }
 
-symbol_token : (word : List ℕ) → Contains symbols word → IsTokenText word
+pub symbol_token : (word : List ℕ) → Contains symbols word → IsTokenText word
 symbol_token word symbol = record {
   lexeme = inr (inr symbol);
   limits = record {

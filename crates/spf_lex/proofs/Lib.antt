@@ -21,6 +21,8 @@ pub mod Readings
 pub mod Repeating
 pub mod Repetitions
 pub mod Sequences
+pub mod SpacedTokens
+pub mod Spacing
 pub mod Spans
 pub mod Standing
 pub mod StandingLeaves

@@ -14,6 +14,7 @@ pub mod Place
 pub mod Production
 pub mod Reader
 pub mod Reading
+pub mod Spaced
 pub mod Standing
 pub mod Suffix
 pub mod Tokens

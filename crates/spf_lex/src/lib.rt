@@ -19,7 +19,8 @@
 //! `IsWholeFault`).
 //!
 //! What is printed is written word by word (`Words`), and its words are read again: a text of words with a blank between
-//! two has those words as its tokens (`joined_words_are_read`).
+//! two has those words as its tokens (`joined_words_are_read`), and so has one with no blank where no word runs on into the
+//! text behind it (`spaced_words_are_read`).
 //!
 //! The crate stands on spf_base, for words, places and running out of memory.
 #![tactic(auto)]
@@ -45,7 +46,7 @@ pub use language::{Quoted, TokenKind, find};
 pub use lexeme::{Lexeme, number};
 pub use parts::{PartFault, TextPart, part_at, place_from, syntax_at, whole};
 pub use reader::{Part, enclosed, keyword, repeated, separated};
-pub use scan::{LexFault, joined_words_are_read, one_reading, tokens};
+pub use scan::{LexFault, joined_words_are_read, one_reading, spaced_words_are_read, tokens};
 pub use text_kind::TextKind;
 pub use token_list::{Span, Tokens};
 pub use words::Words;

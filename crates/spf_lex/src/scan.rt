@@ -5,6 +5,7 @@ ghost use Rattle.spf_lex.specs.Joined.{joined};
 ghost use Rattle.spf_lex.specs.LexFault.{IsFaultOf};
 ghost use Rattle.spf_lex.specs.declared.scan.LexFault.TheVariants.{Memory};
 ghost use Rattle.spf_lex.specs.Lexeme.{number_of};
+ghost use Rattle.spf_lex.specs.Spaced.{IsSpaced};
 ghost use Rattle.spf_lex.specs.Tokens.{HasTokens, IsTokenText, IsTokenized, LacksToken, texts};
 ghost use Rattle.spf_lex.specs.declared.token_list.Span.{Span};
 
@@ -43,6 +44,14 @@ pub fn joined_words_are_read()
     ensures tokens { (words : List (List ℕ)) → All IsTokenText words →
         (spans : List Span) × HasTokens (joined words) spans × (texts (record { text = joined words; spans = spans }) ≡ words) }
     ensures number { (n : ℕ) → n ≤ 2 ^ 63 → IsTokenText (decimal n) × (number_of (decimal n) ≡ Some n) }
+{}
+
+/// Law: words that stand one behind another, with blanks between two or with none where they can't run together, have
+/// those words as tokens; joined words stand so.
+pub fn spaced_words_are_read()
+    ensures tokens { (text : List ℕ) (words : List (List ℕ)) → IsSpaced text words →
+        (spans : List Span) × HasTokens text spans × (texts (record { text = text; spans = spans }) ≡ words) }
+    ensures joined { (words : List (List ℕ)) → All IsTokenText words → IsSpaced (joined words) words }
 {}
 
 /// Keeps one more token.
