@@ -17,8 +17,7 @@
 //! The crate stands on spf_lex for words, productions and their readers, on spf_rel and spf_term for what is read and
 //! printed, and on spf_base for names, places and running out of memory. The names of parameters and functions are found by
 //! their hashes (`NameSet`), so that reading is linear in the tokens on average, but each name is looked for among the
-//! variables of its literal, one by one; `parse_rel` and `parse_set` copy the names that there were. Printing is linear in
-//! the text.
+//! variables of its literal, one by one. Printing is linear in the text.
 #![tactic(auto)]
 
 mod fact;

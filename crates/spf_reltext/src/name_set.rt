@@ -1,6 +1,6 @@
 //! Names that are numbered in the order in which they came.
 
-ghost use Rattle.std.specs.Prelude.{◌≡◌, [], length, slice_get, option_map, OnOk, IfOk};
+ghost use Rattle.std.specs.Prelude.{◌≡◌, [], length, take, slice_get, option_map, OnOk, OnErr, IfOk};
 ghost use Rattle.spf_reltext.specs.Names.{inserted, number_of};
 
 use crate::names::number;
@@ -32,16 +32,6 @@ impl NameSet {
         }
     }
 
-    /// A copy. Linear in the names on average.
-    pub(crate) fn copy(&self) -> Result<NameSet, NoMemory>
-        ensures { IfOk result (λ made. made ≡ self.now) }
-    {
-        match self.names.clone() {
-            Ok(names) => Ok(NameSet { names }),
-            Err(_) => Err(NoMemory),
-        }
-    }
-
     pub fn len(&self) -> usize
         ensures { result ≡ length self.now }
     {
@@ -68,7 +58,8 @@ impl NameSet {
 
     /// Puts a copy of the name behind the others, where it isn't among them. Linear in the name on average.
     pub(crate) fn insert(&mut self, alloc: Global, name: &Name) -> Result<(), NoMemory>
-        ensures { OnOk result (self.new ≡ inserted self.old name.now) }
+        ensures inserted { OnOk result (self.new ≡ inserted self.old name.now) }
+        ensures unchanged { OnErr result (self.new ≡ self.old) }
     {
         if self.names.contains(name.bytes()) {
             return Ok(());
@@ -78,5 +69,12 @@ impl NameSet {
             Ok(_) => Ok(()),
             Err(_) => Err(NoMemory),
         }
+    }
+
+    /// Keeps the first so many. Linear in those that go.
+    pub(crate) fn truncate(&mut self, len: usize)
+        ensures { self.new ≡ take len self.old }
+    {
+        self.names.truncate(len);
     }
 }

@@ -1,6 +1,6 @@
 //! The names of parameters and functions, numbered by their first use.
 
-ghost use Rattle.std.specs.Prelude.{◌≡◌, List, [], ◌++◌, length, position, OnOk, IfOk};
+ghost use Rattle.std.specs.Prelude.{◌≡◌, List, [], ◌++◌, length, take, position, OnOk, OnErr, IfOk};
 ghost use Rattle.std.specs.Option.{unwrap_or};
 ghost use Rattle.std.specs.Str.{bytes_eq};
 ghost use Rattle.spf_reltext.specs.declared.names.RelNames.{RelNames as NamesBefore};
@@ -32,14 +32,13 @@ impl RelNames {
         }
     }
 
-    /// A copy. Linear in the names on average.
-    fn copy(&self) -> Result<RelNames, NoMemory>
-        ensures { IfOk result (λ made. made ≡ self.now) }
+    /// Keeps the first so many of the parameters and of the functions. Linear in those that go.
+    pub(crate) fn truncate(&mut self, params: usize, funs: usize)
+        ensures params { self.new.params ≡ take params self.old.params }
+        ensures funs { self.new.funs ≡ take funs self.old.funs }
     {
-        Ok(RelNames {
-            params: self.params.copy()?,
-            funs: self.funs.copy()?,
-        })
+        self.params.truncate(params);
+        self.funs.truncate(funs);
     }
 }
 
@@ -73,7 +72,8 @@ fn note(
     variables: &[Name],
     role: &Role,
 ) -> Result<(), NoMemory>
-    ensures { OnOk result (names.new ≡ noted variables.now names.old role.now) }
+    ensures noted { OnOk result (names.new ≡ noted variables.now names.old role.now) }
+    ensures begun { OnErr result (Extends names.old names.new) }
 {
     match role {
         Role::Alone => Ok(()),
@@ -93,7 +93,8 @@ fn note_facts(
     variables: &[Name],
     facts: &[Fact],
 ) -> Result<(), NoMemory>
-    ensures { OnOk result (names.new ≡ fact_names variables.now names.old facts.now) }
+    ensures noted { OnOk result (names.new ≡ fact_names variables.now names.old facts.now) }
+    ensures begun { OnErr result (Extends names.old names.new) }
 {
     for fact in facts {
         note(alloc, names, variables, &fact.role)?;
@@ -102,7 +103,8 @@ fn note_facts(
 }
 
 fn note_literal(alloc: Global, names: &mut RelNames, literal: &RawLiteral) -> Result<(), NoMemory>
-    ensures { OnOk result (names.new ≡ literal_names names.old literal.now) }
+    ensures noted { OnOk result (names.new ≡ literal_names names.old literal.now) }
+    ensures begun { OnErr result (Extends names.old names.new) }
 {
     let variables = variables(alloc, literal)?;
     let facts = facts_in(alloc, literal.constraints.as_slice())?;
@@ -116,25 +118,13 @@ pub(crate) fn note_literals(
     names: &mut RelNames,
     literals: &[RawLiteral],
 ) -> Result<(), NoMemory>
-    ensures { OnOk result (names.new ≡ names_of names.old literals.now) }
+    ensures noted { OnOk result (names.new ≡ names_of names.old literals.now) }
+    ensures begun { OnErr result (Extends names.old names.new) }
 {
     for literal in literals {
         note_literal(alloc, names, literal)?;
     }
     Ok(())
-}
-
-/// These names, and behind them those that the literals use first. Copies the names, and then linear in the monomials.
-pub(crate) fn names_of(
-    alloc: Global,
-    names: &RelNames,
-    literals: &[RawLiteral],
-) -> Result<RelNames, NoMemory>
-    ensures { IfOk result (λ made. made ≡ names_of names.now literals.now) }
-{
-    let mut made = names.copy()?;
-    note_literals(alloc, &mut made, literals)?;
-    Ok(made)
 }
 
 /// Law: what the names have stays at its number.

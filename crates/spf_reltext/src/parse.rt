@@ -1,15 +1,19 @@
 //! Reading a set or a relation.
 
-ghost use Rattle.std.specs.Prelude.{◌≡◌, ◌≤◌, length, IfOk};
+ghost use Rattle.std.specs.Prelude.{◌≡◌, ◌≤◌, length, None, IfOk, OnOk, OnErr};
 ghost use Rattle.spf_lex.specs.Tokens.{texts};
 ghost use Rattle.spf_rel.specs.Meaning.{IsFormedRel, IsFormedSet};
+ghost use Rattle.spf_reltext.specs.Names.{Extends, names_of};
+ghost use Rattle.spf_reltext.specs.Resolved.{rel_of, set_of};
 ghost use Rattle.spf_reltext.specs.Parsed.{IsLiteralsAnswer, IsRelAnswer, IsSetAnswer, IsTested, fault_of};
+ghost use Rattle.spf_reltext.specs.Rules.{least_rule};
 ghost use Rattle.spf_reltext.specs.declared.rules.Wanted.TheVariants as wanted;
 
 use crate::kind::CalcKind;
 use crate::literal::Literals;
 use crate::meaning::{rel_of, set_of};
-use crate::names::{RelNames, names_of};
+use crate::names::{RelNames, note_literals};
+use crate::raw::RawLiteral;
 use crate::rules::{Shape, Wanted, least_rule, shape_of_all};
 use spf_base::{NoMemory, Place};
 use spf_lex::{PartFault, TextKind, Tokens, part_at};
@@ -86,9 +90,33 @@ fn literals_at(
     }
 }
 
+/// The relation that literals mean. The names grow by those that they use first, also where memory runs out on the way.
+fn noted_rel(alloc: Global, names: &mut RelNames, literals: &[RawLiteral]) -> Result<Rel, NoMemory>
+    requires { least_rule wanted.Relation literals.now ≡ None }
+    ensures rel { IfOk result (λ rel. rel ≡ rel_of names.new literals.now) }
+    ensures formed { IfOk result IsFormedRel }
+    ensures noted { OnOk result (names.new ≡ names_of names.old literals.now) }
+    ensures begun { OnErr result (Extends names.old names.new) }
+{
+    note_literals(alloc, names, literals)?;
+    rel_of(alloc, names, literals)
+}
+
+/// The set that literals mean. The names grow by those that they use first, also where memory runs out on the way.
+fn noted_set(alloc: Global, names: &mut RelNames, literals: &[RawLiteral]) -> Result<Set, NoMemory>
+    requires { least_rule wanted.Set literals.now ≡ None }
+    ensures set { IfOk result (λ set. set ≡ set_of names.new literals.now) }
+    ensures formed { IfOk result IsFormedSet }
+    ensures noted { OnOk result (names.new ≡ names_of names.old literals.now) }
+    ensures begun { OnErr result (Extends names.old names.new) }
+{
+    note_literals(alloc, names, literals)?;
+    set_of(alloc, names, literals)
+}
+
 /// Reads the relation that stands from token `from` on, and gives the number of the token behind it. The names grow by
-/// those that it uses first; after a refusal they are as before. Linear in the tokens and in the names that there were, on
-/// average, but each name is looked for among the variables of its literal.
+/// those that it uses first; after a refusal they are as before. Linear in the tokens on average, but each name is looked for among
+/// the variables of its literal.
 pub fn parse_rel(
     alloc: Global,
     tokens: &Tokens,
@@ -101,15 +129,19 @@ pub fn parse_rel(
 {
     let (literals, next) = literals_at(alloc, tokens, from, Wanted::Relation)?;
     let list = literals.list.as_slice();
-    let made = names_of(alloc, names, list)?;
-    let rel = rel_of(alloc, &made, list)?;
-    *names = made;
-    Ok((rel, next))
+    let (params, funs) = (names.params.len(), names.funs.len());
+    match noted_rel(alloc, names, list) {
+        Ok(rel) => Ok((rel, next)),
+        Err(NoMemory) => {
+            names.truncate(params, funs);
+            Err(RelTextFault::Memory)
+        }
+    }
 }
 
 /// Reads the set that stands from token `from` on, and gives the number of the token behind it. The names grow by those
-/// that it uses first; after a refusal they are as before. Linear in the tokens and in the names that there were, on
-/// average, but each name is looked for among the variables of its literal.
+/// that it uses first; after a refusal they are as before. Linear in the tokens on average, but each name is looked for among the
+/// variables of its literal.
 pub fn parse_set(
     alloc: Global,
     tokens: &Tokens,
@@ -122,8 +154,12 @@ pub fn parse_set(
 {
     let (literals, next) = literals_at(alloc, tokens, from, Wanted::Set)?;
     let list = literals.list.as_slice();
-    let made = names_of(alloc, names, list)?;
-    let set = set_of(alloc, &made, list)?;
-    *names = made;
-    Ok((set, next))
+    let (params, funs) = (names.params.len(), names.funs.len());
+    match noted_set(alloc, names, list) {
+        Ok(set) => Ok((set, next)),
+        Err(NoMemory) => {
+            names.truncate(params, funs);
+            Err(RelTextFault::Memory)
+        }
+    }
 }
