@@ -4,7 +4,6 @@ pub mod Induction
 pub mod MarkSteps
 pub mod Marks
 mod RenamedJobs
-pub mod Runs
 pub mod TilesInTurn
 pub mod StateSteps
 pub mod Tiles

@@ -6,7 +6,7 @@ use Rattle.std.proofs.lemmas.List.Sums.{count_by-le-length, sum_by-set}
 use Rattle.std.specs.List.{count_by}
 use Rattle.std.specs.Prelude.{is_some}
 use Rattle.spf_touch.specs.Ordered.{is_in}
-use Rattle.spf_touch.proofs.Orders.{in_append}
+use Rattle.spf_touch.proofs.Members.{in_append}
 use Rattle.spf_core.specs.History.{IsAllowed, IsHistory, IsHistoryAfter, MayClaim, claimed_tiles, holds, published_tiles}
 use Rattle.spf_core.specs.Marked.{Chronicle, IsMarked, is_held}
 use Rattle.spf_core.specs.declared.event.Event.{Event}

@@ -2,7 +2,7 @@
 use Rattle.std.proofs.Common.{◌≡◌, ℕ, ◌<◌, ◌≤◌, ◌⊎◌, true, false, ◌&&◌, not, List, [], ◌∷◌, ◌++◌, length, inl, inr, refl, sym, ap, ◌∙◌, eqb}
 use Rattle.std.proofs.lemmas.Bool.{and_from, and_parts, eqb-true, false≢true, not-true, not_from_false, or_cases, or_left, or_right, or_parts, eq-eqb}
 use Rattle.spf_touch.specs.Ordered.{is_in}
-use Rattle.spf_touch.proofs.Orders.{in_append}
+use Rattle.spf_touch.proofs.Members.{in_append}
 use Rattle.spf_core.specs.History.{MayClaim, claimed_tiles, has_claimed, holds, is_before, published_tiles}
 use Rattle.spf_core.specs.declared.event.Event.{Event}
 use Rattle.spf_core.specs.declared.event.Event.TheVariants.{Claim, Publish}

@@ -7,7 +7,8 @@ use Rattle.spf_touch.specs.Frame.{Behavior}
 use Rattle.spf_touch.specs.Ordered.{IsLegalOrder, is_in}
 use Rattle.spf_touch.proofs.Classes.{conflict_turned}
 use Rattle.spf_touch.proofs.Members.{in_head, in_tail}
-use Rattle.spf_touch.proofs.Orders.{in_append, legal_append}
+use Rattle.spf_touch.proofs.Members.{in_append}
+use Rattle.spf_touch.proofs.Orders.{legal_append}
 use Rattle.spf_core.specs.History.{is_before}
 use Rattle.spf_core.specs.SoundJob.{IsSound}
 use Rattle.spf_core.specs.Tiling.{Tiling, list_of, units_of}

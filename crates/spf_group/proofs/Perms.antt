@@ -1,5 +1,5 @@
 -- Permutations in another order, and permutations that order positions alike.
-use Rattle.std.proofs.Common.{◌≡◌, ℕ, zero, suc, ◌<◌, ◌≢◌, List, length, refl, sym, ◌∙◌, inl, inr, arith, Ok, Err, Result}
+use Rattle.std.proofs.Common.{◌≡◌, ℕ, zero, suc, ◌<◌, ◌≢◌, List, length, sym, ◌∙◌, inl, inr, arith}
 use Rattle.std.specs.List.{All, AllPairs}
 use Rattle.std.specs.List.Sorted.{IsPermutation}
 use Rattle.std.proofs.Math.Dec.{eqb}
@@ -10,17 +10,8 @@ use Rattle.std.proofs.lemmas.List.{get_or_default, same_lists}
 use Rattle.std.proofs.lemmas.List.Sorted.{All-permutation, length_permutation}
 use Rattle.std.proofs.lemmas.Map.Keys.{IsDistinct-IsPermutation}
 use Rattle.std.proofs.lemmas.Map.Made.{AllPairs-from_IsDistinct, IsDistinct-from_AllPairs}
-use Rattle.spf_perm.specs.Perm.{at, IsMade, IsPerm, IsPermOf}
-use Rattle.spf_perm.specs.declared.perm_fault.PermFault.{PermFault}
-use Rattle.spf_perm.specs.declared.perm_fault.PermFault.TheVariants.{OutOfRange, NotPerm, Memory}
+use Rattle.spf_perm.specs.Perm.{at, IsPerm}
 use Rattle.spf_perm.proofs.Bijections.{reached}
-
--- a list that is a permutation is refused for want of memory alone
-pub perm_made : (list : List ℕ) (answer : Result (List ℕ) PermFault) → IsPerm list → IsPermOf list answer → IsMade IsPerm answer
-perm_made list (Ok perm) is of = rw of.0 is
-perm_made list (Err (OutOfRange place)) is of = absurd (omega (arith, is.below place of.there, of.outside))
-perm_made list (Err (NotPerm first second)) is of = absurd (omega (arith, is.distinct first second (omega (arith, of.1.order, of.1.there)) of.1.there of.1.same, of.1.order))
-perm_made list (Err Memory) is of = refl
 
 -- entries that are a permutation are one in any order
 pub perm_permuted : (xs ys : List ℕ) → IsPerm xs → IsPermutation xs ys → IsPerm ys

@@ -1,5 +1,5 @@
 -- What a stable sort of positions by their keys makes of their order.
-use Rattle.std.proofs.Common.{◌≡◌, ℕ, ◌+◌, ◌-◌, ◌<◌, ◌≤◌, List, length, slice_index_or, ◌⊎◌, Bool, Result, Ok, Err, IfOk, true, false, refl, sym, ap, ◌∙◌, subst, inl, inr, arith}
+use Rattle.std.proofs.Common.{◌≡◌, ℕ, ◌+◌, ◌-◌, ◌<◌, ◌≤◌, List, length, slice_index_or, ◌⊎◌, Bool, true, false, refl, sym, ap, ◌∙◌, subst, inl, inr, arith}
 use Rattle.std.specs.Cmp.Lexicographic.{slice_cmp}
 use Rattle.std.specs.List.Sorted.{IsPermutation, IsSortedBy, IsSortedByKey, IsStableByKey, ties}
 use Rattle.std.specs.Ordering.{MatchOrdering, is_lt, nat_cmp}
@@ -11,9 +11,7 @@ use Rattle.std.proofs.lemmas.Bool.Decides.{nat_tests}
 use Rattle.std.proofs.lemmas.Cmp.{nat_list_cmp_total, tied_itself}
 use Rattle.std.proofs.lemmas.List.{get_or_default}
 use Rattle.std.proofs.lemmas.List.Sorted.{IsStrictWeakOrder-by_number, length_permutation, ranks_by, ties_stay_sorted}
-use Rattle.spf_perm.specs.Perm.{at, AreDistinct, AreInverse, IsMade, IsPerm}
-use Rattle.spf_perm.specs.declared.perm_fault.PermFault.{PermFault}
-use Rattle.spf_base.specs.declared.no_memory.NoMemory.{NoMemory}
+use Rattle.spf_perm.specs.Perm.{at, AreDistinct, AreInverse, IsPerm}
 use Rattle.spf_group.specs.Ordered.{ComesBefore, IsBefore, IsOrderedBy}
 use Rattle.spf_group.proofs.Before.{before_less, climbs, comes_irrefl, comes_trans, compared}
 use Rattle.spf_group.proofs.Perms.{perm_permuted}
@@ -99,9 +97,3 @@ module _ (key : ℕ → List ℕ) (old current sorted : List ℕ) (is_current : 
         | inr (inl lt) ↦ lt
         | inr (inr gt) ↦ absurd (comes_irrefl key old i (comes_trans key old i j i comes (rises_at j i ltj lti gt)))
       ]
-
-  -- the answer that the inverse of the sorted positions is made to
-  pub inverse_ordered : (answer : Result (List ℕ) PermFault) (result : Result (List ℕ) NoMemory) → IsMade (AreInverse sorted) answer
-      → IfOk result (λ perm. (answer ≡ Ok perm) × IsPerm perm) → IfOk result (IsOrderedBy key old)
-  inverse_ordered answer (Ok perm) made is = ordered perm is.1 (subst (IsMade (AreInverse sorted)) is.0 made)
-  inverse_ordered answer (Err fault) made is = tt

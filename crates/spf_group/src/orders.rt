@@ -1,14 +1,14 @@
 //! The three orders.
 
-ghost use Rattle.std.specs.Prelude.{◌≡◌, ◌≤◌, ◌<◌, ℕ, IfOk, List, Ok, length, map};
-ghost use Rattle.spf_perm.specs.Perm.{AreInverse, IsMade, IsPerm};
+ghost use Rattle.std.specs.Prelude.{◌≡◌, ◌≤◌, ◌<◌, ℕ, IfOk, length, map};
+ghost use Rattle.spf_perm.specs.Perm.{AreInverse, IsPerm};
 ghost use Rattle.spf_group.specs.Keys.{CanOrder, IsSized, bucket_key, group_key, key_of, places_at, sort_key};
 ghost use Rattle.spf_group.specs.Ordered.{IsOrderedBy};
 
 use crate::key::Key;
 use crate::keys::{Column, Keys};
 use spf_base::NoMemory;
-use spf_perm::{Perm, PermFault};
+use spf_perm::{Perm, made};
 use spf_space::Shape;
 use spf_touch::Touches;
 use std::alloc::Global;
@@ -84,8 +84,7 @@ fn ordered(
     let keys = Keys::of(alloc, column, touches, shape.before(of), order.len())?;
     let mut positions = positions_of(alloc, order)?;
     keys.sort(&mut positions)?;
-    let sorted = made(Perm::of_list(alloc, positions))?;
-    made(sorted.inverse(alloc))
+    Ok(made(Perm::of_entries(positions).inverse(alloc))?)
 }
 
 /// The positions in their current order.
@@ -105,15 +104,4 @@ fn entries_of(alloc: Global, perm: &Perm) -> Result<Vec<u32>, NoMemory>
         entries.push(perm.at(old))?;
     }
     Ok(entries)
-}
-
-/// The permutation, or want of memory, which is the only fault that there is.
-fn made(answer: Result<Perm, PermFault>) -> Result<Perm, NoMemory>
-    requires { IsMade IsPerm answer }
-    ensures { IfOk result (λ perm. (answer ≡ Ok perm) × IsPerm perm) }
-{
-    match answer {
-        Ok(perm) => Ok(perm),
-        Err(_) => Err(NoMemory),
-    }
 }

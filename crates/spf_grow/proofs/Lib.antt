@@ -1,5 +1,4 @@
 pub mod Alone
-pub mod Fitting
 pub mod Greatest
 pub mod Grown
 pub mod Noting

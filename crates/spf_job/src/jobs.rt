@@ -13,7 +13,8 @@ ghost use Rattle.spf_core.specs.Replay.{values_of};
 ghost use Rattle.spf_tiles.specs.Before.{Before};
 ghost use Rattle.spf_tiles.specs.Lists.{AreLists};
 ghost use Rattle.spf_exec.specs.Running.{executor_behavior};
-ghost use Rattle.spf_plan.specs.Planned.{IsPlanOf, units_in};
+ghost use Rattle.spf_space.specs.InOrder.{units_in};
+ghost use Rattle.spf_plan.specs.Planned.{IsPlanOf};
 ghost use Rattle.spf_plan.specs.Taken.{BelongTogether};
 
 use crate::moves::moved;

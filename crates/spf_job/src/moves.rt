@@ -9,7 +9,7 @@ ghost use Rattle.spf_job.specs.PlanMoves.{moved_of, moves_of};
 use spf_base::NoMemory;
 use spf_exec::Moved;
 use spf_perm::Perm;
-use spf_plan::{Plan, copied};
+use spf_plan::Plan;
 use spf_space::Shape;
 use sqlite_items::Items;
 use std::alloc::Global;
@@ -22,7 +22,7 @@ fn marked(alloc: Global, marks: &[bool], perms: &[Perm]) -> Result<Items<Option<
     let mut moves = Items::new(alloc);
     for (n, is_marked) in marks.iter().enumerate() {
         if *is_marked {
-            moves.push(Some(copied(alloc, &perms[n])?))?;
+            moves.push(Some(perms[n].copied(alloc)?))?;
         } else {
             moves.push(None)?;
         }

@@ -12,7 +12,8 @@ use Rattle.spf_touch.specs.declared.class.Class.TheVariants.{Read, Write, Add}
 use Rattle.spf_touch.specs.declared.touch.Touch.{Touch}
 use Rattle.spf_layers.specs.Fits.{StandsIn}
 use Rattle.spf_layers.specs.Groups.{Group, group_at, groups_from, in_front, touched_in_front}
-use Rattle.spf_layers.proofs.Members.{pairs_cons, stands_within}
+use Rattle.spf_touch.proofs.Members.{pairs_cons}
+use Rattle.spf_layers.proofs.Members.{stands_within}
 
 pub in_range : (from n u : ℕ) → is_in (range_with_len from n) u ≡ true → (from ≤ u) × (u < from + n)
 in_range from zero u h = cc
@@ -68,7 +69,7 @@ module _ (touches : ℕ → List Touch) (e : ℕ) where
   single u c us h = record {
     filled = omega arith;
     alone = λ _. refl;
-    ascending = pairs_cons u [] (λ v k. cc) (λ i j d lt in'. absurd (omega arith));
+    ascending = pairs_cons (λ (x y : ℕ). x < y) u [] (λ v k. cc) (λ i j d lt in'. absurd (omega arith));
     touched = λ v k. elim (or_cases (eqb v u) false k) [ inl same ↦ rw (eqb-true v u same) h | inr none ↦ cc ];
     members = λ v k. elim (or_cases (eqb v u) false k) [ inl same ↦ or_left (eqb v u) (is_in us v) same | inr none ↦ cc ];
   }
@@ -83,7 +84,7 @@ module _ (touches : ℕ → List Touch) (e : ℕ) where
   front_one u c us g h low one shared = record {
     filled = omega arith;
     alone = λ write. absurd (not_write c g.class shared write);
-    ascending = pairs_cons u g.units (λ v k. low v (one.members v k)) one.ascending;
+    ascending = pairs_cons (λ (x y : ℕ). x < y) u g.units (λ v k. low v (one.members v k)) one.ascending;
     touched = λ v k. elim (or_cases (eqb v u) (is_in g.units v) k) [
       | inl same ↦ rw (eqb-true v u same) h
       | inr later ↦ one.touched v later ∙ ap Some (sym (shared_same c g.class shared))

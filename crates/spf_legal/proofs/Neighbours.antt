@@ -6,7 +6,8 @@ use Rattle.spf_touch.proofs.Classes.{shared_same}
 use Rattle.spf_layers.specs.Fits.{StandsIn}
 use Rattle.spf_layers.specs.Groups.{Group, group_at}
 use Rattle.spf_layers.specs.Legality.{IsFirst}
-use Rattle.spf_layers.proofs.Members.{in_at, stands_within}
+use Rattle.spf_touch.proofs.Members.{in_at}
+use Rattle.spf_layers.proofs.Members.{stands_within}
 use Rattle.spf_legal.specs.Falling.{AreOrdered, FallsApart, NeighboursFall}
 
 module _ (number : ℕ → ℕ) (count : ℕ) (groups : List Group) (ordered : AreOrdered count groups) where

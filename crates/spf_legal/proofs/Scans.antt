@@ -4,7 +4,7 @@ use Rattle.std.proofs.lemmas.Bool.{cases_lt}
 use Rattle.std.specs.List.{AllPairs}
 use Rattle.spf_touch.specs.Ordered.{is_in}
 use Rattle.spf_layers.specs.Legality.{IsFirst}
-use Rattle.spf_layers.proofs.Members.{in_at, place_in}
+use Rattle.spf_touch.proofs.Members.{in_at, place_in}
 use Rattle.spf_legal.specs.Falling.{FallsBetween, IsFirstBelow, IsLastAbove}
 
 module _ (number : ℕ → ℕ) (us : List ℕ) where

@@ -1,8 +1,7 @@
 -- Pairs of units whose numbers fall, and the first of them.
 use Rattle.std.specs.Prelude.{◌≡◌, ℕ, ◌+◌, ◌<◌, ◌≤◌, true, false, List, Option, Some, None, length, if◌then◌else◌, nat_lt}
 use Rattle.std.specs.List.{AllPairs}
-use Rattle.spf_space.specs.Places.{ArePlacesOf, number_of}
-use Rattle.spf_space.specs.Units.{units_of}
+use Rattle.spf_space.specs.Places.{number_of}
 use Rattle.spf_space.specs.declared.places.Places.{Places}
 use Rattle.spf_space.specs.declared.shape.Shape.{Shape}
 use Rattle.spf_touch.specs.Conflict.{is_shared}
@@ -10,13 +9,7 @@ use Rattle.spf_touch.specs.Ordered.{is_in}
 use Rattle.spf_layers.specs.Fits.{StandApart, StandsIn}
 use Rattle.spf_layers.specs.Groups.{Group, group_at}
 
--- how many units there are, that these are their places, and the number of a unit's place
-abbrev pub units_in : Shape → ℕ
-units_in shape = length (units_of shape.steps shape.loops)
-
-abbrev pub ArePlacesIn : Shape → Places → Type 0
-ArePlacesIn shape places = ArePlacesOf shape.steps shape.loops places.tiles places.orders
-
+-- the number of a unit's place
 abbrev pub number_in : Shape → Places → ℕ → ℕ
 number_in shape places u = number_of shape.steps shape.loops places.tiles places.orders u
 

@@ -3,7 +3,8 @@
 ghost use Rattle.std.specs.Prelude.{◌≡◌, ◌<◌, ◌≤◌, ℕ, true};
 ghost use Rattle.std.specs.List.{AllPairs};
 ghost use Rattle.spf_layers.specs.Legality.{IsFirst};
-ghost use Rattle.spf_legal.specs.Falling.{ArePlacesIn, AreBelow, FallsBetween, IsFirstBelow, IsLastAbove, earlier_of, earlier_pair, number_in, units_in};
+ghost use Rattle.spf_legal.specs.Falling.{AreBelow, FallsBetween, IsFirstBelow, IsLastAbove, earlier_of, earlier_pair, number_in};
+ghost use Rattle.spf_space.specs.InOrder.{ArePlacesIn, units_in};
 ghost use Rattle.spf_touch.specs.Ordered.{is_in};
 
 use spf_space::{Places, Shape};

@@ -10,7 +10,6 @@ mod falls;
 mod first;
 mod laws;
 mod placed;
-mod turns;
 
 pub use first::first_reversed;
 pub use laws::legal_where_none_is_reversed;

@@ -1,35 +1,34 @@
 //! Running units in the order of their places.
 
-ghost use Rattle.std.specs.Prelude.{◌≡◌, ◌<◌, ℕ, All, OnErr, OnOk, length, true};
+ghost use Rattle.std.specs.Prelude.{◌≡◌, ◌<◌, ℕ, OnErr, OnOk, length, true};
 ghost use Rattle.std.specs.List.{range_with_len};
 ghost use Rattle.spf_layers.specs.Legality.{IsLegal};
-ghost use Rattle.spf_legal.specs.Turns.{units_of_turns};
 ghost use Rattle.spf_space.specs.Places.{ArePlacesOf, place_of};
 ghost use Rattle.spf_space.specs.Units.{units_of};
 ghost use Rattle.spf_touch.specs.Frame.{IsTouched, after_units};
+ghost use Rattle.spf_touch.specs.Ordered.{is_in};
 ghost use Rattle.spf_touch.specs.Repeated.{touches_at};
 
-use crate::turns::{Turn, turns};
 use spf_base::NoMemory;
-use spf_space::{Places, Shape};
+use spf_space::{Places, Shape, units_in_order};
 use spf_touch::{Cells, Touches, Units};
 use std::alloc::Global;
 
 /// Runs units one after another.
-fn run_turns<U: Units, C: Cells>(units: &U, turns: &[Turn], cells: &mut C)
-    requires units { All (λ (turn : Turn). turn.unit < (U.behavior units.now).count) turns.now }
-    requires own { All (λ (turn : Turn). (e : ℕ) → IsTouched ((U.behavior units.now).touches turn.unit) e → C.own cells.old e ≡ true) turns.now }
+fn run_in_turn<U: Units, C: Cells>(units: &U, order: &[u32], cells: &mut C)
+    requires units { (u : ℕ) → is_in order.now u ≡ true → u < (U.behavior units.now).count }
+    requires own { (u e : ℕ) → is_in order.now u ≡ true → IsTouched ((U.behavior units.now).touches u) e → C.own cells.old e ≡ true }
     ensures own { (e : ℕ) → C.own cells.new e ≡ C.own cells.old e }
     ensures kept { C.kept cells.old cells.new }
-    ensures value { (e : ℕ) → C.value cells.new e ≡ after_units (U.behavior units.now) (units_of_turns turns.now) (C.value cells.old) e }
+    ensures value { (e : ℕ) → C.value cells.new e ≡ after_units (U.behavior units.now) order.now (C.value cells.old) e }
 {
-    for turn in turns {
-        units.run(turn.unit, cells);
+    for unit in order {
+        units.run(*unit, cells);
     }
 }
 
 /// Runs all units in the order of legal places, which does what running them in textual order does. For n units it takes
-/// n log n steps and what their runs cost, and 16 bytes for each.
+/// n log n steps and what their runs cost, and 20 bytes for each.
 pub fn run_placed<U: Units, C: Cells>(
     alloc: Global,
     units: &U,
@@ -50,7 +49,7 @@ pub fn run_placed<U: Units, C: Cells>(
         ≡ after_units (U.behavior units.now) (range_with_len 0 (length (units_of shape.now.steps shape.now.loops))) (C.value cells.old) e) }
     ensures unchanged { OnErr result (cells.new ≡ cells.old) }
 {
-    let order = turns(alloc, shape, places)?;
-    run_turns(units, order.as_slice(), cells);
+    let order = units_in_order(alloc, shape, places)?;
+    run_in_turn(units, order.as_slice(), cells);
     Ok(())
 }

@@ -2,7 +2,7 @@ ghost use Rattle.std.specs.Prelude.{◌≡◌, ◌<◌, ◌^◌, IfOk, Some, len
 ghost use Rattle.spf_perm.specs.Perm.{IsPerm};
 ghost use Rattle.spf_space.specs.Layout.{iterations};
 ghost use Rattle.spf_space.specs.declared.shape.LoopShape.{LoopShape};
-ghost use Rattle.spf_pack.specs.InOrder.{ArePlacesIn};
+ghost use Rattle.spf_space.specs.InOrder.{ArePlacesIn};
 ghost use Rattle.spf_pack.specs.Packs.{IsArrayOf};
 
 use crate::perm::takes_to;

@@ -1,26 +1,12 @@
 -- There is one order of the units by their places.
-use Rattle.std.proofs.Common.{◌≡◌, ℕ, suc, true, List, [], ◌∷◌, AllPairs, inl, inr, refl, sym, ap, ◌∙◌, subst, eqb, arith}
+use Rattle.std.proofs.Common.{◌≡◌, ℕ, suc, true, List, [], ◌∷◌, AllPairs, inl, inr, refl, sym, ap, subst, eqb, arith}
 use Rattle.std.proofs.lemmas.Bool.{cases_eq, eq-eqb, eqb-true, or_cases, or_left, or_right}
-use Rattle.std.proofs.lemmas.List.Sorted.{list_any-IsPermutation}
-use Rattle.std.specs.List.{range_with_len}
-use Rattle.spf_space.specs.Places.{IsBelow, Place}
 use Rattle.spf_space.specs.declared.places.Places.{Places}
 use Rattle.spf_space.specs.declared.shape.Shape.{Shape}
-use Rattle.spf_pack.proofs.Listed.{place_in}
-use Rattle.spf_pack.specs.FirstTouch.{is_in}
-use Rattle.spf_pack.specs.InOrder.{AreInOrder, ComesBefore, count_in}
-
-below_once : (p q : Place) → IsBelow p q → IsBelow q p → ⊥
-below_once p q (inl a) (inl b) = omega arith
-below_once p q (inl a) (inr (e, b)) = omega arith
-below_once p q (inr (e, a)) (inl b) = omega arith
-below_once p q (inr (e, inl a)) (inr (f, inl b)) = omega arith
-below_once p q (inr (e, inl a)) (inr (f, inr (g, b))) = omega arith
-below_once p q (inr (e, inr (g, a))) (inr (f, inl b)) = omega arith
-below_once p q (inr (e, inr (g, inl a))) (inr (f, inr (h, inl b))) = omega arith
-below_once p q (inr (e, inr (g, inl a))) (inr (f, inr (h, inr (i, b)))) = omega arith
-below_once p q (inr (e, inr (g, inr (i, a)))) (inr (f, inr (h, inl b))) = omega arith
-below_once p q (inr (e, inr (g, inr (i, a)))) (inr (f, inr (h, inr (j, b)))) = omega arith
+use Rattle.spf_touch.proofs.Members.{place_in}
+use Rattle.spf_touch.specs.Ordered.{is_in}
+use Rattle.spf_space.proofs.InOrder.{before_once, stands}
+use Rattle.spf_space.specs.InOrder.{AreInOrder, ComesBefore}
 
 -- lists with the same numbers, each of which comes before all behind it
 module _ (Before : ℕ → ℕ → Type 0) (asym : (u v : ℕ) → Before u v → Before v u → ⊥) where
@@ -55,10 +41,6 @@ module _ (Before : ℕ → ℕ → Type 0) (asym : (u v : ℕ) → Before u v �
         absurd (asym x y (behind x xs a y y_in) (behind y ys b x x_in))
   ]
 
-same_units : (shape : Shape) (places : Places) (us vs : List ℕ) → AreInOrder shape places us → AreInOrder shape places vs → (z : ℕ) → is_in us z ≡ true → is_in vs z ≡ true
-same_units shape places us vs a b z h =
-    sym (list_any-IsPermutation (eqb z) (range_with_len 0 (count_in shape)) vs b.each) ∙ list_any-IsPermutation (eqb z) (range_with_len 0 (count_in shape)) us a.each ∙ h
-
 pub one_in_order : (shape : Shape) (places : Places) (us vs : List ℕ) → AreInOrder shape places us → AreInOrder shape places vs → us ≡ vs
-one_in_order shape places us vs a b =
-    one_list (ComesBefore shape places) (λ u v. below_once _ _) us vs a.order b.order (same_units shape places us vs a b) (same_units shape places vs us b a)
+one_in_order shape places us vs a b = one_list (ComesBefore shape places) (before_once shape places) us vs a.order b.order
+    (λ z there. (stands shape places vs b z).1 ((stands shape places us a z).0 there)) (λ z there. (stands shape places us a z).1 ((stands shape places vs b z).0 there))

@@ -1,12 +1,15 @@
 -- The places that are listed make a packing.
-use Rattle.std.proofs.Common.{◌≡◌, ℕ, ◌<◌, true, List, [], ◌++◌, length, All, Result, Ok, Err, inr, refl, sym, ap, subst, ◌∙◌, eqb, arith}
+use Rattle.std.proofs.Common.{◌≡◌, ℕ, ◌<◌, true, List, [], ◌++◌, length, All, sym, ap, subst, ◌∙◌, eqb}
+use Rattle.std.proofs.lemmas.Bool.{or_right}
 use Rattle.std.specs.List.{IsDistinct}
+use Rattle.spf_touch.proofs.Listed.{all_append, in_all}
 use Rattle.spf_perm.proofs.Bijections.{reached}
-use Rattle.spf_perm.specs.Perm.{AreInverse, IsMade, IsPerm, IsPermOf}
-use Rattle.spf_perm.specs.declared.perm_fault.PermFault.{PermFault}
-use Rattle.spf_perm.specs.declared.perm_fault.PermFault.TheVariants.{OutOfRange, NotPerm, Memory}
-use Rattle.spf_pack.specs.FirstTouch.{all_listed, first_touch_order, is_in, once}
-use Rattle.spf_pack.proofs.Listed.{all_append, all_distinct, all_has, distinct_long, distinct_perm, in_at, nothing_distinct, place_in}
+use Rattle.spf_perm.specs.Perm.{AreInverse, IsPerm}
+use Rattle.spf_touch.specs.Listed.{all_listed}
+use Rattle.spf_pack.specs.FirstTouch.{first_touch_order, once}
+use Rattle.spf_touch.specs.Ordered.{is_in}
+use Rattle.spf_pack.proofs.Listed.{all_distinct, distinct_long, distinct_perm, nothing_distinct}
+use Rattle.spf_touch.proofs.Members.{in_at, place_in}
 use Rattle.spf_pack.proofs.Turned.{inverse_in_turn}
 
 module _ (touched now back order : List ℕ) (is : IsPerm back) (inverse : AreInverse now back) (listed : order ≡ all_listed (all_listed [] touched) back) where
@@ -23,17 +26,10 @@ module _ (touched now back order : List ℕ) (is : IsPerm back) (inverse : AreIn
   inside below y h = let at = place_in order y h in subst (λ x. x < length back) (at.2 0) (below at.0 0 at.1)
 
   has : (y : ℕ) → y < length back → is_in order y ≡ true
-  has y lt = rw listed (all_has (all_listed [] touched) back y (inr (back_has y lt)))
+  has y lt = rw listed (in_all (all_listed [] touched) back y ∙ or_right (is_in (all_listed [] touched) y) (is_in back y) (back_has y lt))
 
   pub order_perm : All (λ x. x < length back) order → IsPerm order
   order_perm below = distinct_perm order (length back) is.few distinct (inside below) has
 
   pub order_long : All (λ x. x < length back) order → length order ≡ length now
   order_long below = distinct_long order (length back) distinct (inside below) has ∙ inverse.lengths
-
--- a list that is a permutation is refused for want of memory alone
-pub perm_made : (list : List ℕ) (answer : Result (List ℕ) PermFault) → IsPerm list → IsPermOf list answer → IsMade IsPerm answer
-perm_made list (Ok perm) is of = rw of.0 is
-perm_made list (Err (OutOfRange place)) is of = absurd (omega (arith, is.below place of.there, of.outside))
-perm_made list (Err (NotPerm first second)) is of = absurd (omega (arith, is.distinct first second (omega (arith, of.1.order, of.1.there)) of.1.there of.1.same, of.1.order))
-perm_made list (Err Memory) is of = refl

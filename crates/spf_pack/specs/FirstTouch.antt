@@ -1,22 +1,10 @@
 -- The order in which places of arrays are first touched.
-use Rattle.std.specs.Prelude.{ℕ, ◌-◌, Bool, ◌&&◌, nat_eq, nat_le, nat_lt, List, [], ◌∷◌, ◌++◌, length, map, filter_map, slice_get, Option, Some, None, if◌then◌else◌}
-use Rattle.std.specs.List.{list_any, position_or_len, range_with_len}
+use Rattle.std.specs.Prelude.{ℕ, ◌-◌, ◌&&◌, nat_eq, nat_le, nat_lt, List, [], ◌∷◌, ◌++◌, length, map, filter_map, slice_get, Option, Some, None, if◌then◌else◌}
+use Rattle.std.specs.List.{position_or_len, range_with_len}
 use Rattle.spf_perm.specs.Perm.{AreInverse}
 use Rattle.spf_space.specs.declared.shape.ArrayShape.{ArrayShape}
+use Rattle.spf_touch.specs.Listed.{all_listed}
 use Rattle.spf_touch.specs.declared.touch.Touch.{Touch}
-
--- whether the number stands in the list
-abbrev pub is_in : List ℕ → ℕ → Bool
-is_in xs x = list_any (nat_eq x) xs
-
--- the list with the number at its end, unless it stands there already
-abbrev pub with_listed : List ℕ → ℕ → List ℕ
-with_listed listed x = if is_in listed x then listed else listed ++ x ∷ []
-
--- the list with these numbers put there one after another
-abbrev pub all_listed : List ℕ → List ℕ → List ℕ
-all_listed listed [] = listed
-all_listed listed (x ∷ xs) = all_listed (with_listed listed x) xs
 
 -- each number of a list once, where it stands first
 abbrev pub once : List ℕ → List ℕ

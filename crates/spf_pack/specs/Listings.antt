@@ -1,6 +1,6 @@
 -- Places with flags.
 use Rattle.std.specs.Prelude.{ℕ, ◌≡◌, ◌<◌, false, All, length, slice_index_or}
-use Rattle.spf_pack.specs.FirstTouch.{is_in}
+use Rattle.spf_touch.specs.Ordered.{is_in}
 use Rattle.spf_pack.specs.declared.listing.Listing.{Listing}
 
 -- the flags say what is listed, and each listed place has one

@@ -9,7 +9,7 @@ use Rattle.spf_space.specs.declared.shape.Shape.{Shape}
 use Rattle.spf_touch.specs.Repeated.{touches_at}
 use Rattle.spf_touch.specs.declared.touch.Touch.{Touch}
 use Rattle.spf_pack.specs.FirstTouch.{IsFirstTouchPacking, in_turn, touched_places}
-use Rattle.spf_pack.specs.InOrder.{AreInOrder, ArePlacesIn}
+use Rattle.spf_space.specs.InOrder.{AreInOrder, ArePlacesIn}
 
 -- the places of the arrays that these units touch, one unit after another
 abbrev pub touched_by : List (List Touch) → List ArrayShape → List ℕ → List ℕ → List ℕ

@@ -1,7 +1,8 @@
 //! Places in the order in which they are first met.
 
 ghost use Rattle.std.specs.Prelude.{◌≡◌, ◌<◌, ℕ, [], All, IfOk, OnOk, length};
-ghost use Rattle.spf_pack.specs.FirstTouch.{all_listed, touched_places, with_listed};
+ghost use Rattle.spf_touch.specs.Listed.{all_listed, with_listed};
+ghost use Rattle.spf_pack.specs.FirstTouch.{touched_places};
 ghost use Rattle.spf_pack.specs.Listings.{IsListing};
 ghost use Rattle.spf_pack.specs.Packs.{IsArrayOf, touched_by};
 ghost use Rattle.spf_touch.specs.Repeated.{touches_at};

@@ -1,15 +1,14 @@
 //! The two packings.
 
 ghost use Rattle.std.specs.Prelude.{◌≡◌, ◌+◌, ◌<◌, ◌≤◌, ◌^◌, ℕ, All, IfOk, Ok, length, map};
-ghost use Rattle.spf_perm.specs.Perm.{AreInverse, IsMade, IsPerm};
+ghost use Rattle.spf_perm.specs.Perm.{AreInverse, IsPerm};
 ghost use Rattle.spf_pack.specs.FirstTouch.{IsFirstTouchPacking, first_touch_order, in_turn};
 ghost use Rattle.spf_pack.specs.Packs.{CanCpack, CanTilepack, IsArrayOf, IsCpacking, IsTilepacking, first_packing, touched_by};
 
-use crate::in_order::units_in_order;
 use crate::listing::Listing;
 use spf_base::NoMemory;
-use spf_perm::{Perm, PermFault};
-use spf_space::{ArrayShape, Places, Shape};
+use spf_perm::{Perm, made};
+use spf_space::{ArrayShape, Places, Shape, units_in_order};
 use spf_touch::Touches;
 use std::alloc::Global;
 
@@ -114,17 +113,5 @@ fn packed(
     ensures long { IfOk result (λ packing. length packing ≡ length now.now) }
 {
     let order = in_first_touch_order(alloc, touches, arrays, units, members, now)?;
-    let places = made(Perm::of_list(alloc, order))?;
-    made(places.inverse(alloc))
-}
-
-/// The permutation, or want of memory, which is the only fault that there is.
-fn made(answer: Result<Perm, PermFault>) -> Result<Perm, NoMemory>
-    requires { IsMade IsPerm answer }
-    ensures { IfOk result (λ perm. (answer ≡ Ok perm) × IsPerm perm) }
-{
-    match answer {
-        Ok(perm) => Ok(perm),
-        Err(_) => Err(NoMemory),
-    }
+    Ok(made(Perm::of_entries(order).inverse(alloc))?)
 }

@@ -11,5 +11,5 @@ mod entries;
 mod perm;
 mod perm_fault;
 
-pub use perm::Perm;
+pub use perm::{Perm, made};
 pub use perm_fault::PermFault;

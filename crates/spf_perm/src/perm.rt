@@ -1,6 +1,6 @@
 //! Permutations.
 
-ghost use Rattle.std.specs.Prelude.{◌≡◌, ◌<◌, ◌^◌, ℕ, pos, length, map, slice_index_or};
+ghost use Rattle.std.specs.Prelude.{◌≡◌, ◌<◌, ◌^◌, ℕ, IfOk, Ok, pos, length, map, slice_index_or};
 ghost use Rattle.std.specs.List.{range_with_len};
 ghost use Rattle.spf_perm.specs.Perm.{at, AreInverse, IsMade, IsPerm, IsPermOf};
 
@@ -8,7 +8,7 @@ use crate::entries::{
     entries_of, first_outside, first_repeat, move_cells, numbers_below, places_of,
 };
 use crate::perm_fault::PermFault;
-use std::alloc::Global;
+use std::alloc::{AllocError, Global};
 use std::marker::Model;
 
 /// A bijection of 0 to one less than the length, seen as the list of where each element goes. 4 bytes for each element.
@@ -41,6 +41,14 @@ impl Perm {
             Some((first, second)) => Err(PermFault::NotPerm { first, second }),
             None => Ok(Perm { list }),
         }
+    }
+
+    /// The permutation that has these entries, which are one. It takes no memory.
+    pub fn of_entries(list: Vec<u32>) -> Perm
+        requires { IsPerm list.items }
+        ensures { result ≡ list.items }
+    {
+        Perm { list }
     }
 
     /// The permutation that moves nothing. Linear in the length.
@@ -87,6 +95,15 @@ impl Perm {
         })
     }
 
+    /// The same permutation again. Linear in the elements.
+    pub fn copied(&self, alloc: Global) -> Result<Perm, AllocError>
+        ensures { IfOk result (λ copy. copy ≡ self.now) }
+    {
+        Ok(Perm {
+            list: self.list.clone()?,
+        })
+    }
+
     /// Moves each cell to the place where its element goes. Linear in the elements.
     pub fn apply_to(&self, from: &[i64], to: &mut [i64])
         requires from { length from.now ≡ length self.now }
@@ -95,5 +112,16 @@ impl Perm {
         ensures moved { (e : ℕ) → e < length self.now → slice_index_or to.new (at self.now e) (pos 0) ≡ slice_index_or from.now e (pos 0) }
     {
         move_cells(self.list.as_slice(), from, to);
+    }
+}
+
+/// The permutation, or want of memory, which is the only fault that there is.
+pub fn made(answer: Result<Perm, PermFault>) -> Result<Perm, AllocError>
+    requires { IsMade IsPerm answer }
+    ensures { IfOk result (λ perm. (answer ≡ Ok perm) × IsPerm perm) }
+{
+    match answer {
+        Ok(perm) => Ok(perm),
+        Err(_) => Err(AllocError),
     }
 }

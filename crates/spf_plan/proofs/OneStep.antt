@@ -18,7 +18,8 @@ use Rattle.spf_seed.specs.Spread.{IsSpread}
 use Rattle.spf_seed.specs.declared.view.SeedView.{SeedView}
 use Rattle.spf_grow.specs.Growth.{Falls, IsGrown, first_unit, seed_number}
 use Rattle.spf_pack.specs.Packs.{IsCpacking, IsTilepacking}
-use Rattle.spf_plan.specs.Planned.{AreLegal, Planned, by_iteration, reordered, tiled, units_in}
+use Rattle.spf_space.specs.InOrder.{units_in}
+use Rattle.spf_plan.specs.Planned.{AreLegal, Planned, by_iteration, reordered, tiled}
 use Rattle.spf_plan.specs.Seeded.{IsSeedOf, view_of}
 use Rattle.spf_plan.specs.Taken.{AreFirst, AreFirstFallen, AreFirstReversed, AreGrown, Reorders, TakesPacks, TakesTile}
 use Rattle.spf_plan.specs.declared.plan_fault.PlanFault.{PlanFault}

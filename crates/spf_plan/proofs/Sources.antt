@@ -19,7 +19,8 @@ use Rattle.spf_space.specs.declared.unit.Unit.{Unit}
 use Rattle.spf_space.proofs.Placed.{unit_is, unit_there}
 use Rattle.spf_space.proofs.Textual.{follows}
 use Rattle.spf_plan.proofs.InPlace.{identities_in_place}
-use Rattle.spf_plan.specs.Planned.{AreLegal, IsPlanOf, source_orders, source_plan, units_in}
+use Rattle.spf_space.specs.InOrder.{units_in}
+use Rattle.spf_plan.specs.Planned.{AreLegal, IsPlanOf, source_orders, source_plan}
 
 -- identities of these sizes
 abbrev identities : {A : Type 0} → (A → ℕ) → List A → List (List ℕ)

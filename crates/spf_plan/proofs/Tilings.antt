@@ -12,7 +12,8 @@ use Rattle.spf_space.specs.declared.shape.Shape.{Shape}
 use Rattle.spf_script.specs.declared.resolved.Seed.{Seed}
 use Rattle.spf_script.specs.declared.resolved.Seed.TheVariants.{Block, Spread, Plug}
 use Rattle.spf_grow.specs.Growth.{IsGrown}
-use Rattle.spf_plan.specs.Planned.{AreLegal, IsPlanOf, Planned, by_iteration, tiled, units_in}
+use Rattle.spf_space.specs.InOrder.{units_in}
+use Rattle.spf_plan.specs.Planned.{AreLegal, IsPlanOf, Planned, by_iteration, tiled}
 use Rattle.spf_plan.specs.Seeded.{IsSeedOf, starts_before}
 
 module _ (touches : List (List Touch)) (shape : Shape) where

@@ -1,38 +1,22 @@
 -- What a seed sees of a loop.
-use Rattle.std.proofs.Common.{◌≡◌, ℕ, zero, suc, ◌+◌, ◌-◌, ◌<◌, ◌≤◌, ◌^◌, false, nat_eq, List, [], ◌∷◌, ◌++◌, length, take, get_or, flat_map, slice_get, Some, inl, inr, arith, refl, sym, ap, ◌∙◌}
+use Rattle.std.proofs.Common.{◌≡◌, ℕ, zero, suc, ◌+◌, ◌-◌, ◌<◌, ◌≤◌, ◌^◌, false, nat_eq, List, [], ◌∷◌, ◌++◌, length, get_or, flat_map, slice_get, Some, arith, refl, sym, ap, ◌∙◌}
 use Rattle.std.specs.List.{range_with_len}
 use Rattle.std.proofs.lemmas.Bool.{eq-eqb, ne_eqb}
 use Rattle.std.proofs.lemmas.List.{flat_map_more, length-append, length-map}
 use Rattle.std.proofs.lemmas.List.FromFn.{get_or-map-range_with_len, length-map-range_with_len, map-range_with_len_more}
 use Rattle.std.proofs.lemmas.List.Sorted.{IsNonDecreasingBy-from_default}
 use Rattle.std.proofs.lemmas.List.Sums.{position_or_len_is}
-use Rattle.std.proofs.lemmas.Nat.{mul-le}
-use Rattle.std.proofs.lemmas.Option.{slice_get_cases}
 use Rattle.spf_perm.specs.Perm.{at, AreInverse, IsPerm}
 use Rattle.spf_perm.proofs.Bijections.{range_more}
 use Rattle.spf_touch.specs.declared.touch.Touch.{Touch}
-use Rattle.spf_space.specs.Layout.{iterations}
 use Rattle.spf_space.specs.Units.{units_of}
 use Rattle.spf_space.specs.declared.shape.LoopShape.{LoopShape}
 use Rattle.spf_space.specs.declared.shape.Shape.{Shape}
-use Rattle.spf_space.proofs.Standing.{iterations-cons, units_length}
+use Rattle.spf_space.proofs.Standing.{reach_in_step, units_length}
 use Rattle.spf_seed.specs.View.{IsView}
 use Rattle.spf_grow.specs.Growth.{Falls, first_unit}
 use Rattle.spf_plan.specs.Planned.{by_iteration, iteration_at}
 use Rattle.spf_plan.specs.Seeded.{elements_at, elements_before, starts_before, view_of}
-
--- all loops have the iterations of each one and of those before it
-reach : (loops : List LoopShape) (of : ℕ) (each : LoopShape) → slice_get loops of ≡ Some each → iterations (take of loops) + each.extent ≤ iterations loops
-reach [] of each there = cc
-reach (loop ∷ loops) zero each there = let same : loop ≡ each = cc in rw (← same) (omega (arith, iterations-cons loop loops))
-reach (loop ∷ loops) (suc of) each there = omega (arith, iterations-cons loop loops, iterations-cons loop (take of loops), reach loops of each there)
-
-pub loop_reach : (loops : List LoopShape) (of extent : ℕ) → of < length loops → ((each : LoopShape) → slice_get loops of ≡ Some each → extent ≡ each.extent)
-    → iterations (take of loops) + extent ≤ iterations loops
-loop_reach loops of extent there is = elim ((slice_get_cases loops of).1) [
-  | inl (each, inside, at, same) ↦ omega (arith, is each at, reach loops of each at)
-  | inr (past, none) ↦ absurd (omega arith)
-]
 
 -- two units along which a seed falls are units of the shape
 pub fall_there : (steps : ℕ) (loops : List LoopShape) (step of : ℕ) → step < steps → of < length loops → (order list : List ℕ)
@@ -44,8 +28,7 @@ fall_there steps loops step of low there order list is touches p q fall =
     let within : q < length (units_of steps loops) = rw units_length (omega (
       arith,
       length-map order (at list),
-      loop_reach loops of (length order) there is,
-      mul-le (step + 1) (iterations loops) steps (iterations loops) (omega arith) (omega arith),
+      reach_in_step steps loops step of (length order) low there is,
     )) in
     (omega arith, within)
 

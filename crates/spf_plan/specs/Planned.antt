@@ -4,8 +4,8 @@ use Rattle.std.specs.List.{position_or_len, range_with_len}
 use Rattle.spf_perm.specs.Perm.{at, IsPerm}
 use Rattle.spf_touch.specs.Repeated.{touches_at}
 use Rattle.spf_touch.specs.declared.touch.Touch.{Touch}
+use Rattle.spf_space.specs.InOrder.{units_in}
 use Rattle.spf_space.specs.Places.{ArePlacesOf, place_of}
-use Rattle.spf_space.specs.Units.{units_of}
 use Rattle.spf_space.specs.declared.shape.ArrayShape.{ArrayShape}
 use Rattle.spf_space.specs.declared.shape.LoopShape.{LoopShape}
 use Rattle.spf_space.specs.declared.shape.Shape.{Shape}
@@ -32,10 +32,6 @@ iteration_at order position = position_or_len (nat_eq position) order
 -- the parts of a loop's source positions, where the list has those of the positions of its order
 abbrev pub by_iteration : List ℕ → List ℕ → List ℕ
 by_iteration order list = map (at list) order
-
--- how many units there are
-abbrev pub units_in : Shape → ℕ
-units_in shape = length (units_of shape.steps shape.loops)
 
 -- each array has a packing of its places
 pub record ArePacksOf (arrays : List ArrayShape) (packs : List (List ℕ)) : Type 0 where

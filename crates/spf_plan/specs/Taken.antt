@@ -20,7 +20,8 @@ use Rattle.spf_group.specs.Keys.{bucket_key, group_key, places_at, sort_key}
 use Rattle.spf_group.specs.Ordered.{IsOrderedBy}
 use Rattle.spf_pack.specs.Packs.{IsCpacking, IsTilepacking}
 use Rattle.spf_grow.specs.Growth.{Falls, IsGrown, first_unit}
-use Rattle.spf_plan.specs.Planned.{AreLegal, Planned, by_iteration, pack_of, reordered, source_plan, tiled, units_in}
+use Rattle.spf_space.specs.InOrder.{units_in}
+use Rattle.spf_plan.specs.Planned.{AreLegal, Planned, by_iteration, pack_of, reordered, source_plan, tiled}
 use Rattle.spf_plan.specs.Packed.{IsPacked, places_of}
 use Rattle.spf_plan.specs.Seeded.{IsSeedOf}
 use Rattle.spf_plan.specs.declared.plan_fault.PlanFault.{PlanFault}

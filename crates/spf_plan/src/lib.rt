@@ -29,4 +29,3 @@ pub use laws::one_plan_answer;
 pub use plan_fault::PlanFault;
 pub use planning::plan;
 pub use plans::Plan;
-pub use reorder::copied;

@@ -8,7 +8,6 @@ ghost use Rattle.spf_script.specs.Resolved.{AreAlike};
 ghost use Rattle.spf_plan.specs.Packed.{AreNextPackings, CanPackBy, IsNextPacking, IsOrderFor, IsPackingBy, is_listed, marked};
 ghost use Rattle.spf_plan.specs.Planned.{ArePacksOf};
 
-use crate::reorder::copied;
 use spf_base::NoMemory;
 use spf_pack::{cpack, tilepack};
 use spf_perm::Perm;
@@ -103,7 +102,7 @@ fn next_packing(
 {
     match listed(arrays, n) {
         Some(array) => new_packing(alloc, touches, shape, places, order, arrays, packs, array),
-        None => copied(alloc, &packs[n]),
+        None => Ok(packs[n].copied(alloc)?),
     }
 }
 

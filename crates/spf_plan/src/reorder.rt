@@ -1,11 +1,10 @@
 //! Orders of loops in places.
 
-ghost use Rattle.std.specs.Prelude.{◌≡◌, ◌<◌, IfOk, length};
+ghost use Rattle.std.specs.Prelude.{◌≡◌, ◌<◌, length};
 ghost use Rattle.spf_perm.specs.Perm.{IsPerm};
 ghost use Rattle.spf_space.specs.Places.{ArePlacesOf, order_of};
 ghost use Rattle.spf_plan.specs.Taken.{BelongTogether, TriesOrder};
 
-use crate::source::identity;
 use spf_base::NoMemory;
 use spf_layers::Layers;
 use spf_legal::{first_reversed, legal_where_none_is_reversed};
@@ -13,16 +12,6 @@ use spf_perm::Perm;
 use spf_space::{Places, Shape, Unit};
 use spf_touch::Touches;
 use std::alloc::Global;
-
-/// The same permutation again. Linear in the elements.
-pub fn copied(alloc: Global, perm: &Perm) -> Result<Perm, NoMemory>
-    ensures { IfOk result (λ copy. copy ≡ perm.now) }
-{
-    match identity(alloc, perm.len())?.then(alloc, perm) {
-        Ok(copy) => Ok(copy),
-        Err(_) => Err(NoMemory),
-    }
-}
 
 /// Gives the loop this order, if that reverses no two conflicting units, and else answers the first two that it would. Linear in
 /// the positions of the loop, and in the touches of all units times the loops.
@@ -43,7 +32,7 @@ pub(crate) fn try_order(
     ensures tiles { places.new.tiles ≡ places.old.tiles }
     ensures orders { TriesOrder touches.now shape.now places.old.tiles places.old.orders of order result places.new.orders }
 {
-    let old = copied(alloc, &places.orders.as_slice()[of as usize])?;
+    let old = places.orders.as_slice()[of as usize].copied(alloc)?;
     places.orders.set(of as usize, order);
     match first_reversed(layers, touches, shape, places) {
         None => {

@@ -5,20 +5,10 @@ ghost use Rattle.std.specs.List.{range_with_len};
 ghost use Rattle.spf_plan.specs.Planned.{own_places, source_orders};
 
 use spf_base::NoMemory;
-use spf_perm::Perm;
+use spf_perm::{Perm, made};
 use spf_space::{ArrayShape, LoopShape};
 use sqlite_items::Items;
 use std::alloc::Global;
-
-/// The permutation that moves nothing. Linear in the length.
-pub(crate) fn identity(alloc: Global, len: u32) -> Result<Perm, NoMemory>
-    ensures { IfOk result (λ perm. perm ≡ range_with_len 0 len) }
-{
-    match Perm::identity(alloc, len) {
-        Ok(perm) => Ok(perm),
-        Err(_) => Err(NoMemory),
-    }
-}
 
 /// The source order of each loop. Linear in the iterations of a step.
 pub(crate) fn source_orders(alloc: Global, loops: &[LoopShape]) -> Result<Items<Perm>, NoMemory>
@@ -26,7 +16,7 @@ pub(crate) fn source_orders(alloc: Global, loops: &[LoopShape]) -> Result<Items<
 {
     let mut orders = Items::new(alloc);
     for each in loops {
-        orders.push(identity(alloc, each.extent)?)?;
+        orders.push(made(Perm::identity(alloc, each.extent))?)?;
     }
     Ok(orders)
 }
@@ -37,7 +27,7 @@ pub(crate) fn own_places(alloc: Global, arrays: &[ArrayShape]) -> Result<Items<P
 {
     let mut packs = Items::new(alloc);
     for array in arrays {
-        packs.push(identity(alloc, array.length)?)?;
+        packs.push(made(Perm::identity(alloc, array.length))?)?;
     }
     Ok(packs)
 }

@@ -1,14 +1,14 @@
 //! What a seed sees of a loop.
 
 ghost use Rattle.std.specs.Prelude.{◌≡◌, ◌++◌, ◌+◌, ◌<◌, ◌≤◌, ◌^◌, IfOk, OnOk, [], length, map, slice_index_or, take};
-ghost use Rattle.spf_perm.specs.Perm.{AreInverse, IsPerm};
+ghost use Rattle.spf_perm.specs.Perm.{IsPerm};
 ghost use Rattle.spf_touch.specs.declared.touch.Touch.{Touch};
 ghost use Rattle.spf_space.specs.Layout.{iterations};
 ghost use Rattle.spf_seed.specs.View.{IsView};
 ghost use Rattle.spf_plan.specs.Seeded.{elements_at, view_of};
 
 use spf_base::NoMemory;
-use spf_perm::Perm;
+use spf_perm::{Perm, made};
 use spf_seed::SeedView;
 use spf_space::Shape;
 use spf_touch::{Touch, Touches};
@@ -36,16 +36,6 @@ fn start_behind(elements: &Items<u32>) -> Result<u32, NoMemory>
     }
 }
 
-/// The source position of each position.
-fn inverse(alloc: Global, order: &Perm) -> Result<Perm, NoMemory>
-    ensures { IfOk result (AreInverse order.now) }
-{
-    match order.inverse(alloc) {
-        Ok(back) => Ok(back),
-        Err(_) => Err(NoMemory),
-    }
-}
-
 /// What a seed of so many parts sees of the loop in this order. There is no view of 2^32 elements or more, which is told as
 /// want of memory. Linear in the positions of the loop and their touches.
 pub(crate) fn view(
@@ -65,7 +55,7 @@ pub(crate) fn view(
     ensures is { IfOk result IsView }
 {
     let first = shape.before(of);
-    let back = inverse(alloc, order)?;
+    let back = made(order.inverse(alloc))?;
     let mut starts = Items::new(alloc);
     let mut elements = Items::new(alloc);
     starts.push(0)?;

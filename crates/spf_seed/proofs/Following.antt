@@ -11,13 +11,13 @@ use Rattle.std.proofs.lemmas.List.FromFn.{get_or-range_with_len, length-range_wi
 use Rattle.std.proofs.lemmas.Map.Made.{IsDistinct-from_AllPairs, length-le_from_is_member}
 use Rattle.std.proofs.lemmas.Map.Steps.{length-le_from_distinct_below}
 use Rattle.spf_seed.specs.BreadthFirst.{AreUsedUp, IsBreadthFirst, IsFree, IsLeast, IsNext}
-use Rattle.spf_seed.specs.Listed.{is_in}
+use Rattle.spf_touch.specs.Ordered.{is_in}
 use Rattle.spf_seed.specs.Listings.{IsUnderway}
 use Rattle.spf_seed.specs.Spread.{IsSpread, per_part}
 use Rattle.spf_seed.specs.View.{AreNeighbours, positions}
 use Rattle.spf_seed.specs.declared.view.SeedView.{SeedView}
 use Rattle.std.proofs.lemmas.Grind.{same_number_lists}
-use Rattle.spf_seed.proofs.Members.{in_append, in_at, pairs_cons, place_in}
+use Rattle.spf_touch.proofs.Members.{in_append, in_at, pairs_cons, place_in}
 
 module _ (near : ℕ → ℕ → Type 0) (count : ℕ) where
   abbrev IsGrown : List ℕ → Type 0

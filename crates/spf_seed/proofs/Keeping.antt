@@ -12,14 +12,17 @@ use Rattle.std.proofs.lemmas.Map.Keys.{IsDistinct-IsPermutation}
 use Rattle.std.proofs.lemmas.Map.Made.{AllPairs-from_IsDistinct, IsDistinct-from_AllPairs}
 use Rattle.spf_seed.specs.BreadthFirst.{IsFree}
 use Rattle.spf_seed.specs.Entries.{AreInverted, has_entry, positions_in, row_of}
-use Rattle.spf_seed.specs.Listed.{all_listed, is_in}
+use Rattle.spf_touch.specs.Listed.{all_listed}
+use Rattle.spf_touch.specs.Ordered.{is_in}
 use Rattle.spf_seed.specs.Listings.{AreFlags, IsListing, IsLonger, IsUnderway}
 use Rattle.spf_seed.specs.View.{AreNeighbours, positions, touched}
 use Rattle.spf_seed.specs.declared.inverted.Entry.{Entry}
 use Rattle.spf_seed.specs.declared.listing.Listing.{Listing}
 use Rattle.spf_seed.specs.declared.view.SeedView.{SeedView}
 use Rattle.spf_seed.proofs.Following.{grown_more, neighbours_follow, used_before}
-use Rattle.spf_seed.proofs.Members.{all_fresh, all_there, fresh, fresh_apart, fresh_in, in_all, in_append, in_at}
+use Rattle.spf_seed.proofs.Members.{all_fresh, all_there, fresh, fresh_apart, fresh_in}
+use Rattle.spf_touch.proofs.Listed.{in_all}
+use Rattle.spf_touch.proofs.Members.{in_append, in_at}
 use Rattle.spf_seed.proofs.Rows.{has, has_from, in_row, in_rows, rows_have}
 
 module _ (count : ℕ) (entries : List Entry) (old new : Listing) (kept : IsListing count entries old) (flags : AreFlags new) (still : length new.flags.items ≡ length old.flags.items) where

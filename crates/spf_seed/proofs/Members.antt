@@ -1,55 +1,11 @@
--- Numbers that are put at the end of a list, unless they stand there already.
-use Rattle.std.proofs.Common.{◌≡◌, ◌≢◌, ℕ, zero, suc, ◌+◌, ◌<◌, Bool, true, false, not, ◌&&◌, ◌||◌, List, [], ◌∷◌, ◌++◌, if◌then◌else◌, length, get_or, drop, inl, inr, refl, sym, ap, ◌∙◌, eqb, append_assoc, arith}
-use Rattle.std.specs.List.{AllPairs, flat_map}
-use Rattle.std.proofs.lemmas.Bool.{cases_Bool, eq-eqb, eqb-true, or_cases, or_left, or_right, and_parts, not-true}
-use Rattle.std.proofs.lemmas.List.{append-nil, drop_more}
-use Rattle.std.proofs.lemmas.List.Folds.{list_any-append, list_any_at}
-use Rattle.spf_seed.specs.Listed.{all_listed, is_in, with_listed}
-
-pub in_at : (xs : List ℕ) (k d : ℕ) → k < length xs → is_in xs (get_or xs k d) ≡ true
-in_at xs k d h = list_any_at (eqb (get_or xs k d)) xs k d h (eq-eqb (get_or xs k d) (get_or xs k d) refl)
-
-pub place_in : (xs : List ℕ) (y : ℕ) → is_in xs y ≡ true → (k : ℕ) × (k < length xs) × ((d : ℕ) → get_or xs k d ≡ y)
-place_in [] y h = cc
-place_in (x ∷ xs) y h = elim (or_cases (eqb y x) (is_in xs y) h) [
-  | inl here ↦ (0, omega arith, λ d. sym (eqb-true y x here))
-  | inr later ↦ let rest = place_in xs y later in (suc rest.0, omega (arith, rest.1), rest.2)
-]
-
-pub in_append : (xs ys : List ℕ) (y : ℕ) → is_in (xs ++ ys) y ≡ (is_in xs y || is_in ys y)
-in_append xs ys y = list_any-append (eqb y) xs ys
-
-pub or_false : (b : Bool) → (b || false) ≡ b
-or_false true = refl
-or_false false = refl
-
-or_assoc : (a b c : Bool) → ((a || b) || c) ≡ (a || (b || c))
-or_assoc true b c = refl
-or_assoc false b c = refl
-
-pub in_with : (xs : List ℕ) (x y : ℕ) → is_in (with_listed xs x) y ≡ (is_in xs y || eqb y x)
-in_with xs x y = elim (cases_Bool (is_in xs x)) [
-  | inl there ↦ rw there (elim (cases_Bool (eqb y x)) [
-    | inl same ↦ let e : y ≡ x = eqb-true y x same in let h : is_in xs y ≡ true = rw e there in rw h refl
-    | inr other ↦ rw other (sym (or_false (is_in xs y)))
-  ])
-  | inr none ↦ rw none (in_append xs (x ∷ []) y ∙ ap (λ b. is_in xs y || b) (or_false (eqb y x)))
-]
-
-pub in_all : (base xs : List ℕ) (y : ℕ) → is_in (all_listed base xs) y ≡ (is_in base y || is_in xs y)
-in_all base [] y = sym (or_false (is_in base y))
-in_all base (x ∷ xs) y = in_all (with_listed base x) xs y ∙ ap (λ b. b || is_in xs y) (in_with base x y) ∙ or_assoc (is_in base y) (eqb y x) (is_in xs y)
-
-pub all_append : (base xs ys : List ℕ) → all_listed base (xs ++ ys) ≡ all_listed (all_listed base xs) ys
-all_append base [] ys = refl
-all_append base (x ∷ xs) ys = all_append (with_listed base x) xs ys
-
--- one list more of those that are left
-pub rows_more : (rows : ℕ → List ℕ) (old new whole : List ℕ) (es : List ℕ) (i d : ℕ) → i < length es → new ≡ all_listed old (rows (get_or es i d)) →
-    all_listed old (flat_map rows (drop i es)) ≡ whole → all_listed new (flat_map rows (drop (i + 1) es)) ≡ whole
-rows_more rows old new whole es i d lt step rest =
-    ap (λ (l : List ℕ). all_listed l (flat_map rows (drop (i + 1) es))) step ∙ sym (all_append old (rows (get_or es i d)) (flat_map rows (drop (i + 1) es)))
-    ∙ ap (λ (l : List ℕ). all_listed old (flat_map rows l)) (sym (drop_more es i d lt)) ∙ rest
+-- Numbers of which some are put at the end of a list.
+use Rattle.std.proofs.Common.{◌≡◌, ◌≢◌, ℕ, Bool, true, false, not, ◌&&◌, ◌||◌, List, [], ◌∷◌, ◌++◌, if◌then◌else◌, inl, inr, refl, sym, ap, ◌∙◌, eqb, append_assoc, arith}
+use Rattle.std.specs.List.{AllPairs}
+use Rattle.std.proofs.lemmas.Bool.{cases_Bool, eq-eqb, eqb-true, or_left, or_right, and_parts, not-true}
+use Rattle.std.proofs.lemmas.List.{append-nil}
+use Rattle.spf_touch.specs.Listed.{all_listed}
+use Rattle.spf_touch.specs.Ordered.{is_in}
+use Rattle.spf_touch.proofs.Members.{in_append, in_at, pairs_cons}
 
 -- where all stand in the list already it stays
 pub all_there : (base xs : List ℕ) → ((y : ℕ) → is_in xs y ≡ true → is_in base y ≡ true) → all_listed base xs ≡ base
@@ -87,12 +43,6 @@ fresh_in base (x ∷ xs) y = elim (cases_Bool (is_in base x)) [
   | inl there ↦ rw there (fresh_in base xs y ∙ kept_out (eqb y x) (is_in xs y) (is_in base y) (λ same. let e : y ≡ x = eqb-true y x same in rw e there))
   | inr none ↦ rw none (ap (λ b. eqb y x || b) (fresh_in (base ++ x ∷ []) xs y) ∙ ap (λ b. eqb y x || (is_in xs y && not b)) (in_append base (x ∷ []) y) ∙ let_in (eqb y x) (is_in xs y) (is_in base y) (λ same. let e : y ≡ x = eqb-true y x same in rw e none))
 ]
-
-pub pairs_cons : (R : ℕ → ℕ → Type 0) (x : ℕ) (xs : List ℕ) → ((y : ℕ) → is_in xs y ≡ true → R x y) → AllPairs R xs → AllPairs R (x ∷ xs)
-pairs_cons R x xs first all zero zero d lt in' = absurd (omega arith)
-pairs_cons R x xs first all zero (suc j) d lt in' = first (get_or xs j d) (in_at xs j d (omega arith))
-pairs_cons R x xs first all (suc i) zero d lt in' = absurd (omega arith)
-pairs_cons R x xs first all (suc i) (suc j) d lt in' = all i j d (omega arith) (omega arith)
 
 pub fresh_apart : (base xs : List ℕ) → AllPairs (λ x y. x ≢ y) (fresh base xs)
 fresh_apart base [] = λ i j d lt in'. absurd (omega arith)

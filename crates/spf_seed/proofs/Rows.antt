@@ -8,9 +8,10 @@ use Rattle.std.proofs.lemmas.List.Elements.{filter-append, filter_passes}
 use Rattle.std.proofs.lemmas.List.Folds.{list_any-append, list_any_at}
 use Rattle.std.proofs.lemmas.List.Sorted.{list_any-IsPermutation}
 use Rattle.spf_seed.specs.Entries.{AreEntriesTo, AreInverted, entry_at, has_entry, positions_in, row_of}
-use Rattle.spf_seed.specs.Listed.{is_in}
+use Rattle.spf_touch.specs.Ordered.{is_in}
 use Rattle.spf_seed.specs.declared.inverted.Entry.{Entry}
-use Rattle.spf_seed.proofs.Members.{in_append, or_false}
+use Rattle.spf_touch.proofs.Members.{in_append}
+use Rattle.spf_touch.proofs.Listed.{or_false}
 
 none : Entry
 none = record { element = 0; position = 0 }

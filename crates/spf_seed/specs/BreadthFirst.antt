@@ -1,6 +1,6 @@
 -- Breadth-first orders of the numbers below count, by a relation between them.
 use Rattle.std.specs.Prelude.{◌≡◌, ℕ, ◌<◌, ◌≤◌, ◌⊎◌, false, List, length, slice_index, take}
-use Rattle.spf_seed.specs.Listed.{is_in}
+use Rattle.spf_touch.specs.Ordered.{is_in}
 
 -- below count, and not listed yet
 pub record IsFree (count : ℕ) (listed : List ℕ) (x : ℕ) : Type 0 where

@@ -1,6 +1,5 @@
 pub mod BreadthFirst
 pub mod Entries
-pub mod Listed
 pub mod Listings
 pub mod Spread
 pub mod View

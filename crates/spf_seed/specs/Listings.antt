@@ -2,7 +2,7 @@
 use Rattle.std.specs.Prelude.{◌≡◌, ℕ, ◌<◌, ◌≤◌, true, false, List, length, slice_index, slice_index_or, take}
 use Rattle.spf_seed.specs.BreadthFirst.{AreUsedUp, IsNext}
 use Rattle.spf_seed.specs.Entries.{has_entry}
-use Rattle.spf_seed.specs.Listed.{is_in}
+use Rattle.spf_touch.specs.Ordered.{is_in}
 use Rattle.spf_seed.specs.declared.inverted.Entry.{Entry}
 use Rattle.spf_seed.specs.declared.listing.Listing.{Listing}
 

@@ -4,7 +4,8 @@ ghost use Rattle.std.specs.Prelude.{◌≡◌, ◌≢◌, ◌<◌, ◌≤◌, �
 ghost use Rattle.std.specs.List.Sorted.{IsNonDecreasingBy, IsPermutation, IsSorted};
 ghost use Rattle.std.specs.Ordering.{nat_cmp};
 ghost use Rattle.spf_seed.specs.Entries.{AreInverted, positions_in, row_of};
-ghost use Rattle.spf_seed.specs.Listed.{all_listed, is_in, with_listed};
+ghost use Rattle.spf_touch.specs.Listed.{all_listed, with_listed};
+ghost use Rattle.spf_touch.specs.Ordered.{is_in};
 ghost use Rattle.spf_seed.specs.Listings.{AreFlags, IsListing, IsLonger, IsUnderway};
 ghost use Rattle.spf_seed.specs.View.{AreNeighbours, IsView, positions, touched};
 

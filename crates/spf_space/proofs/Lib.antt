@@ -1,3 +1,4 @@
+pub mod InOrder
 pub mod Standing
 pub mod Textual
 pub mod Placed

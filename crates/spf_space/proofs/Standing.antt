@@ -1,8 +1,9 @@
 -- Where a unit stands in the list of all units.
-use Rattle.std.proofs.Common.{◌≡◌, ℕ, zero, suc, ◌+◌, ◌*◌, ◌<◌, List, [], ◌∷◌, ◌++◌, length, map, take, slice_get, Some, refl, ap, ◌∙◌, arith, length-append}
+use Rattle.std.proofs.Common.{◌≡◌, ℕ, zero, suc, ◌+◌, ◌*◌, ◌<◌, ◌≤◌, List, [], ◌∷◌, ◌++◌, length, map, take, slice_get, Some, refl, ap, ◌∙◌, arith, length-append}
 use Rattle.std.specs.List.{flat_map, range_with_len}
 use Rattle.std.proofs.lemmas.List.FromFn.{length-map-range_with_len, get_or-map-range_with_len}
 use Rattle.std.proofs.lemmas.List.Sums.{sum_by-cons}
+use Rattle.std.proofs.lemmas.Nat.{mul-le}
 use Rattle.std.proofs.lemmas.Option.{slice_get-get_or}
 use Rattle.std.proofs.Math.Nat.{suc-mul}
 use Rattle.spf_space.specs.Layout.{iterations}
@@ -48,6 +49,19 @@ before loops n = iterations (take n loops)
 pub iterations-cons : (each : LoopShape) (loops : List LoopShape) → iterations (each ∷ loops) ≡ each.extent + iterations loops
 iterations-cons each loops = sum_by-cons (λ (l : LoopShape). l.extent) each loops
 
+-- all loops have the iterations of each one and of those before it
+pub reach : (loops : List LoopShape) (n extent : ℕ) → n < length loops → ((each : LoopShape) → slice_get loops n ≡ Some each → extent ≡ each.extent)
+    → before loops n + extent ≤ iterations loops
+reach [] n extent lt is = absurd (omega arith)
+reach (each ∷ loops) zero extent lt is = omega (arith, iterations-cons each loops, is each refl)
+reach (each ∷ loops) (suc n) extent lt is = omega (arith, iterations-cons each loops, iterations-cons each (take n loops), reach loops n extent (omega arith) is)
+
+-- all steps have the iterations of the steps before one, and in it those of each loop and of the loops before it
+pub reach_in_step : (steps : ℕ) (loops : List LoopShape) (step n extent : ℕ) → step < steps → n < length loops → ((each : LoopShape) → slice_get loops n ≡ Some each → extent ≡ each.extent)
+    → step * iterations loops + before loops n + extent ≤ steps * iterations loops
+reach_in_step steps loops step n extent low lt is =
+    omega (arith, reach loops n extent lt is, mul-le (step + 1) (iterations loops) steps (iterations loops) (omega arith) (omega arith))
+
 abbrev pub unit_at : ℕ → ℕ → ℕ → Unit
 unit_at step loop_no position = record { step = step; loop_no = loop_no; position = position }
 
@@ -81,6 +95,14 @@ in_step step loops n each position e lt = let first : 0 + n ≡ n = omega arith 
 pub units_length : (steps : ℕ) (loops : List LoopShape) → length (units_of steps loops) ≡ steps * iterations loops
 unfolding units_of
 units_length steps loops = rows_length (λ step. loops_units step 0 loops) (iterations loops) (λ step. step_length step 0 loops) 0 steps
+
+a_factor : (steps count : ℕ) → 0 < steps * count → 0 < count
+a_factor steps zero h = absurd (omega arith)
+a_factor steps (suc count) h = omega arith
+
+-- where there is a unit a step has one
+pub some_iterations : (steps : ℕ) (loops : List LoopShape) → 0 < length (units_of steps loops) → 0 < iterations loops
+some_iterations steps loops some = a_factor steps (iterations loops) (rw units_length at some)
 
 -- where a unit of one step stands among all
 pub in_all : (steps : ℕ) (loops : List LoopShape) (step place : ℕ) (u : Unit) → step < steps → slice_get (loops_units step 0 loops) place ≡ Some u

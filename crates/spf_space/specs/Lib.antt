@@ -1,3 +1,4 @@
+pub mod InOrder
 pub mod Layout
 pub mod Places
 pub mod Units

@@ -6,15 +6,19 @@
 //! before another in textual order exactly where its ordinal is the lesser (`ordinals_are_textual_order`).
 //!
 //! Places say in which tile each unit is run, and each loop in which order: a unit is run before another exactly where its
-//! place's number is the lesser (`numbers_are_places`).
+//! place's number is the lesser (`numbers_are_places`). `units_in_order` lists all units in the order of their places, each
+//! once (`AreInOrder`).
 //!
-//! It stands on spf_base for names and on spf_perm for the orders of loops. Its calls are linear in the loops, of which a kernel has at most 32, and take no memory.
+//! It stands on spf_base for names and on spf_perm for the orders of loops. Its calls are linear in the
+//! loops, of which a kernel has at most 32, and take no memory, but for `units_in_order`, which sorts.
 #![tactic(auto)]
 
+mod in_order;
 mod places;
 mod shape;
 mod unit;
 
+pub use in_order::units_in_order;
 pub use places::{Places, numbers_are_places};
 pub use shape::{ArrayShape, LoopShape, Shape};
 pub use unit::{Unit, ordinals_are_textual_order};

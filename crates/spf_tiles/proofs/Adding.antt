@@ -3,7 +3,7 @@ use Rattle.std.proofs.Common.{◌≡◌, ℕ, ◌+◌, ◌<◌, ◌≤◌, ◌�
 use Rattle.std.proofs.lemmas.Bool.{cases_lt}
 use Rattle.spf_touch.specs.Ordered.{is_in}
 use Rattle.spf_core.proofs.Marks.{in_new, in_old, in_push}
-use Rattle.spf_layers.proofs.Members.{in_at, place_in}
+use Rattle.spf_touch.proofs.Members.{in_at, place_in}
 use Rattle.spf_tiles.specs.TileSets.{AreAdded}
 
 -- after those of P those of Q, which are these and i

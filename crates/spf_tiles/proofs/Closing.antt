@@ -6,7 +6,7 @@ use Rattle.std.proofs.lemmas.List.{get_or_append_left, get_or_default, get_or_pa
 use Rattle.std.proofs.lemmas.List.Elements.{All-append}
 use Rattle.std.specs.List.{All, AllPairs}
 use Rattle.spf_touch.specs.Ordered.{is_in}
-use Rattle.spf_layers.proofs.Members.{in_at}
+use Rattle.spf_touch.proofs.Members.{in_at}
 use Rattle.spf_core.specs.History.{is_before}
 use Rattle.spf_tiles.specs.Before.{IsChain, Leads}
 use Rattle.spf_tiles.specs.Links.{IsReached, Rises}

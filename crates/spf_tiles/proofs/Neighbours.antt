@@ -5,7 +5,8 @@ use Rattle.std.proofs.lemmas.List.{get_or_past}
 use Rattle.spf_touch.specs.declared.touch.Touch.{Touch}
 use Rattle.spf_layers.specs.Fits.{Fits, StandApart, StandsIn}
 use Rattle.spf_layers.specs.Groups.{Group, element_groups, group_at}
-use Rattle.spf_layers.proofs.Members.{in_at, stands_within}
+use Rattle.spf_touch.proofs.Members.{in_at}
+use Rattle.spf_layers.proofs.Members.{stands_within}
 use Rattle.spf_tiles.specs.Before.{Leads, Link}
 use Rattle.spf_tiles.specs.Links.{LayersLink}
 use Rattle.spf_tiles.proofs.Chains.{leads_join}

@@ -5,11 +5,10 @@ use Rattle.std.proofs.lemmas.List.{get_or_past}
 use Rattle.std.specs.Prelude.{IsSome}
 use Rattle.spf_core.specs.SoundJob.{IsSound}
 use Rattle.spf_core.specs.Tiling.{Tiling, list_of}
-use Rattle.spf_layers.proofs.Members.{place_in}
 use Rattle.spf_layers.specs.Legality.{IsLegal}
 use Rattle.spf_space.specs.Places.{IsBelow, Place}
 use Rattle.spf_touch.proofs.Classes.{conflict_turned}
-use Rattle.spf_touch.proofs.Members.{in_head, in_tail}
+use Rattle.spf_touch.proofs.Members.{in_head, in_tail, place_in}
 use Rattle.spf_touch.specs.Conflict.{Conflict}
 use Rattle.spf_touch.specs.Copy.{class_of, joined}
 use Rattle.spf_touch.specs.Frame.{Behavior, IsTouched, class_at}

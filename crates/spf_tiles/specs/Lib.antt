@@ -5,4 +5,3 @@ pub mod Links
 pub mod Lists
 pub mod Parts
 pub mod TileSets
-pub mod Turns

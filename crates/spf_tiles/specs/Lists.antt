@@ -1,5 +1,5 @@
 -- The units of each tile in turn.
-use Rattle.std.specs.Prelude.{◌≡◌, ◌↔◌, ℕ, ◌<◌, true, List, [], length, slice_index_or}
+use Rattle.std.specs.Prelude.{◌≡◌, ◌↔◌, ℕ, ◌<◌, ◌==◌, true, List, [], filter, length, slice_index_or}
 use Rattle.std.specs.List.{AllPairs}
 use Rattle.spf_space.specs.Places.{IsBelow, Place}
 use Rattle.spf_touch.specs.Ordered.{is_in}
@@ -9,3 +9,7 @@ pub record AreLists (place : ℕ → Place) (count tiles : ℕ) (lists : List (L
   pub each_tile : length lists ≡ tiles
   pub units : (t u : ℕ) → t < tiles → (is_in (slice_index_or lists t []) u ≡ true) ↔ ((u < count) × ((place u).tile ≡ t))
   pub rising : (t : ℕ) → AllPairs (λ (u v : ℕ). IsBelow (place u) (place v)) (slice_index_or lists t [])
+
+-- those of the units, in turn, that are in the tile
+abbrev pub dealt_to : ℕ → List ℕ → List ℕ → List ℕ
+dealt_to t tiles units = filter (λ u. slice_index_or tiles u 0 == t) units

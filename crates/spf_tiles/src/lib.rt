@@ -16,7 +16,6 @@ mod links;
 mod order;
 mod tile_lists;
 mod tile_sets;
-mod turns;
 
 pub use feet::footprints;
 pub use laws::{before_rises, plan_parts_are_sound, tile_order_is_for_the_places};

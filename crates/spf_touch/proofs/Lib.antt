@@ -3,6 +3,7 @@ pub mod ActionEffects
 pub mod Blends
 pub mod Classes
 pub mod Lifting
+pub mod Listed
 pub mod Lists
 pub mod Marked
 pub mod Members

@@ -1,11 +1,13 @@
 -- Any legal order of units does what their ascending order does.
-use Rattle.std.proofs.Common.{◌≡◌, ℕ, zero, suc, ◌+◌, ◌<◌, ◌≤◌, ℤ, Bool, true, false, ◌||◌, List, [], ◌∷◌, ◌++◌, inl, inr, refl, sym, ap, ◌∙◌, cond, eqb, ltb, arith}
-use Rattle.std.proofs.lemmas.Bool.{cases_Bool, cases_order, eq-eqb, eqb-true, lt-ltb, le-ltb, ltb-true, ne_eqb, or_cases, or_from, false_from_ne_true}
+use Rattle.std.proofs.Common.{◌≡◌, ℕ, zero, suc, ◌+◌, ◌<◌, ◌≤◌, ℤ, Bool, true, false, ◌||◌, List, [], ◌∷◌, ◌++◌, drop, length, get_or, inl, inr, refl, sym, ap, ◌∙◌, cond, eqb, ltb, arith}
+use Rattle.std.proofs.lemmas.Bool.{and_parts, cases_Bool, cases_order, eq-eqb, lt-ltb, le-ltb, ltb-true, ne_eqb, or_cases, or_from, false_from_ne_true}
+use Rattle.std.proofs.lemmas.List.{at_drop_more}
 use Rattle.std.specs.List.{filter, range_with_len}
+use mathlib.Core.Path.{fun_ext}
 use Rattle.spf_touch.specs.Conflict.{Conflict}
 use Rattle.spf_touch.specs.Frame.{Behavior, FrameLaw, after_unit, after_units}
 use Rattle.spf_touch.specs.Ordered.{IsLegalOrder, ascending, is_in}
-use Rattle.spf_touch.proofs.Members.{in_head, in_tail}
+use Rattle.spf_touch.proofs.Members.{in_append, in_filter, in_head, in_tail}
 use Rattle.spf_touch.proofs.Classes.{conflict_turned}
 use Rattle.spf_touch.proofs.Swaps.{swapped}
 
@@ -64,21 +66,9 @@ filter_none : (a n : ℕ) → filter (is_in []) (range_with_len a n) ≡ []
 filter_none a zero = refl
 filter_none a (suc n) = filter_none (a + 1) n
 
-in_filter : (p : ℕ → Bool) (xs : List ℕ) (v : ℕ) → is_in (filter p xs) v ≡ true → p v ≡ true
-in_filter p [] v h = cc
-in_filter p (x ∷ xs) v h = elim (cases_Bool (p x)) [
-  | inl keep ↦
-      let k : (eqb v x || is_in (filter p xs) v) ≡ true = rw keep at h in
-      elim (or_cases (eqb v x) (is_in (filter p xs) v) k) [
-        | inl here ↦ rw (eqb-true v x here) keep
-        | inr later ↦ in_filter p xs v later
-      ]
-  | inr not ↦ in_filter p xs v (rw not at h)
-]
-
 free_below : (units : Behavior) (u : ℕ) (us : List ℕ) → IsLegalOrder units (u ∷ us) → FreeBelow units u (ascending units.count us)
 free_below units u us legal v k below =
-    let there = in_filter (is_in us) (range_with_len 0 units.count) v k in
+    let there = (and_parts _ _ (sym (in_filter (is_in us) (range_with_len 0 units.count) v) ∙ k)).0 in
     let b : u < units.count = legal.0 in (
       omega arith,
       λ clash. let above = legal.2 v there clash in omega arith,
@@ -94,13 +84,6 @@ reordered units law (u ∷ us) values legal =
     reordered units law us (after_unit units u values) legal.3 ∙
     sym (put_in_late units law u (ascending units.count us) values legal.0 (free_below units u us legal)) ∙
     ap (λ l. after_units units l values) (put_in_range (is_in us) u 0 units.count legal.1 (omega arith) b)
-
-pub in_append : (xs ys : List ℕ) (n : ℕ) → is_in (xs ++ ys) n ≡ (is_in xs n || is_in ys n)
-in_append [] ys n = refl
-in_append (x ∷ xs) ys n = elim (cases_Bool (eqb n x)) [
-  | inl here ↦ rw here refl
-  | inr other ↦ rw other (in_append xs ys n)
-]
 
 pub units-append : (units : Behavior) (us vs : List ℕ) (values : ℕ → ℤ) → after_units units (us ++ vs) values ≡ after_units units vs (after_units units us values)
 units-append units [] vs values = refl
@@ -128,3 +111,9 @@ filter_all p a (suc n) all = rw (all a (omega arith) (omega arith)) (ap (λ l. a
 -- where every unit stands in the list, the ascending order is that of all units
 pub ascending_all : (count : ℕ) (us : List ℕ) → ((u : ℕ) → u < count → is_in us u ≡ true) → ascending count us ≡ range_with_len 0 count
 ascending_all count us all = filter_all (is_in us) 0 count (λ u low high. all u (omega arith))
+
+-- one unit more of those that are left to run
+pub run_more : (units : Behavior) (us : List ℕ) (i d : ℕ) (before after all : ℕ → ℤ) → i < length us →
+    ((e : ℕ) → after e ≡ after_unit units (get_or us i d) before e) → after_units units (drop i us) before ≡ all → after_units units (drop (i + 1) us) after ≡ all
+run_more units us i d before after all inside step rest =
+    ap (after_units units (drop (i + 1) us)) (fun_ext step) ∙ sym (at_drop_more (λ l. after_units units l before) us i d inside) ∙ rest

@@ -4,6 +4,7 @@ pub mod Blend
 pub mod Conflict
 pub mod Copy
 pub mod Frame
+pub mod Listed
 pub mod Lists
 pub mod Noted
 pub mod Ops

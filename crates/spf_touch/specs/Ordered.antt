@@ -1,13 +1,12 @@
 -- Orders in which units may be run.
-use Rattle.std.specs.Prelude.{◌≡◌, ℕ, ◌<◌, Bool, true, false, ◌||◌, ◌==◌, List, [], ◌∷◌, filter}
-use Rattle.std.specs.List.{range_with_len}
+use Rattle.std.specs.Prelude.{◌≡◌, ℕ, ◌<◌, Bool, true, false, List, [], ◌∷◌, filter, nat_eq}
+use Rattle.std.specs.List.{list_any, range_with_len}
 use Rattle.spf_touch.specs.Conflict.{Conflict}
 use Rattle.spf_touch.specs.Frame.{Behavior}
 
 -- whether the number stands in the list
 abbrev pub is_in : List ℕ → ℕ → Bool
-is_in [] n = false
-is_in (x ∷ xs) n = (n == x) || is_in xs n
+is_in xs n = list_any (nat_eq n) xs
 
 -- the units below count that stand in the list, in ascending number
 abbrev pub ascending : ℕ → List ℕ → List ℕ

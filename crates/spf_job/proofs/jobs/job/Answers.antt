@@ -11,7 +11,7 @@ use Rattle.spf_space.specs.Units.{units_of}
 use Rattle.spf_space.specs.declared.shape.LoopShape.{LoopShape}
 use Rattle.spf_touch.specs.Repeated.{touches_at}
 use Rattle.spf_exec.specs.Running.{executor_behavior}
-use Rattle.spf_plan.specs.Planned.{units_in}
+use Rattle.spf_space.specs.InOrder.{units_in}
 use Rattle.spf_job.proofs.PlanMoves.{have_packings}
 use Rattle.spf_job.proofs.PlanParts.{all_perms, count_of, listed_below, parts_of, tile_below}
 use Rattle.spf_job.proofs.jobs.job.Goals as goal

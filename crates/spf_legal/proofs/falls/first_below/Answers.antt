@@ -1,5 +1,5 @@
 use Rattle.std.proofs.Common.{◌≤◌, get_or, arith}
-use Rattle.spf_layers.proofs.Members.{in_at}
+use Rattle.spf_touch.proofs.Members.{in_at}
 use Rattle.spf_legal.specs.Falling.{number_in}
 use Rattle.spf_legal.proofs.Scans.{found_first, of_all}
 use Rattle.spf_legal.proofs.falls.first_below.Goals as goal

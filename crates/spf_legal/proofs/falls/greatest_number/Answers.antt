@@ -1,6 +1,6 @@
 use Rattle.std.proofs.Common.{◌≡◌, ◌≤◌, get_or, inl, inr, sym, ◌∙◌, arith}
 use Rattle.std.proofs.lemmas.Bool.{cases_lt}
-use Rattle.spf_layers.proofs.Members.{in_at}
+use Rattle.spf_touch.proofs.Members.{in_at}
 use Rattle.spf_legal.specs.Falling.{number_in}
 use Rattle.spf_legal.proofs.Scans.{of_all}
 use Rattle.spf_legal.proofs.falls.greatest_number.Goals as goal

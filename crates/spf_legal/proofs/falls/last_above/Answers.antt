@@ -1,5 +1,5 @@
 use Rattle.std.proofs.Common.{◌≤◌, length, get_or, arith}
-use Rattle.spf_layers.proofs.Members.{in_at}
+use Rattle.spf_touch.proofs.Members.{in_at}
 use Rattle.spf_legal.specs.Falling.{number_in}
 use Rattle.spf_legal.proofs.Scans.{last_done, last_kept, last_taken}
 use Rattle.spf_legal.proofs.falls.last_above.Goals as goal

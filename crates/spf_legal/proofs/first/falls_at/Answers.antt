@@ -2,7 +2,8 @@ use Rattle.std.proofs.Common.{◌≡◌, ◌+◌, ◌-◌, ◌<◌, ◌≤◌, l
 use Rattle.std.proofs.lemmas.Bool.{cases_lt}
 use Rattle.spf_layers.specs.Groups.{element_groups, group_at}
 use Rattle.spf_layers.specs.Legality.{IsFirst}
-use Rattle.spf_legal.specs.Falling.{FallsBetween, NeighboursFall, number_in, units_in}
+use Rattle.spf_legal.specs.Falling.{FallsBetween, NeighboursFall, number_in}
+use Rattle.spf_space.specs.InOrder.{units_in}
 use Rattle.spf_legal.proofs.Firsts.{first_like, first_more}
 use Rattle.spf_legal.proofs.Neighbours.{first_of_neighbours}
 use Rattle.spf_legal.proofs.first.falls_at.Goals as goal

@@ -2,7 +2,7 @@ use Rattle.std.proofs.Common.{◌+◌, length, ap, arith}
 use Rattle.std.proofs.lemmas.List.{length-map}
 use Rattle.spf_pack.specs.FirstTouch.{in_turn}
 use Rattle.spf_pack.proofs.Lengths.{first_is}
-use Rattle.spf_pack.proofs.Reach.{reach}
+use Rattle.spf_space.proofs.Standing.{reach}
 use Rattle.spf_pack.proofs.Turned.{length-in_turn}
 use Rattle.spf_pack.proofs.packs.cpack.Goals as goal
 

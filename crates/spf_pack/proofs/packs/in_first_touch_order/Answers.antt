@@ -1,6 +1,6 @@
 use Rattle.std.proofs.Common.{◌≡◌, ◌<◌, [], All, length, sym, ap, subst, ◌∙◌}
 use Rattle.spf_perm.specs.Perm.{AreInverse}
-use Rattle.spf_pack.specs.FirstTouch.{all_listed}
+use Rattle.spf_touch.specs.Listed.{all_listed}
 use Rattle.spf_pack.specs.Packs.{touched_by}
 use Rattle.spf_pack.proofs.Packed.{order_is, order_long, order_perm}
 use Rattle.spf_pack.proofs.packs.in_first_touch_order.Goals as goal

@@ -1,11 +1,12 @@
 use Rattle.std.proofs.Common.{length, ap, ◌∙◌, arith}
 use Rattle.spf_plan.proofs.Tilings.{parts_below, seed_long}
-use Rattle.spf_plan.proofs.Views.{fall_there, loop_reach}
+use Rattle.spf_space.proofs.Standing.{reach}
+use Rattle.spf_plan.proofs.Views.{fall_there}
 use Rattle.spf_plan.proofs.tiling.grown_tiles.Goals as goal
 
 pub seed_parts-requires-clause-positions : goal.seed_parts-requires-clause-positions
 seed_parts-requires-clause-positions c =
-    omega (arith, c.requires.lists, loop_reach c.args.shape.now.loops c.args.tiling.of (length c.args.order.now) c.requires.step.0 c.requires.positions)
+    omega (arith, c.requires.lists, reach c.args.shape.now.loops c.args.tiling.of (length c.args.order.now) c.requires.step.0 c.requires.positions)
 
 pub by_iteration-requires : goal.by_iteration-requires
 by_iteration-requires c =

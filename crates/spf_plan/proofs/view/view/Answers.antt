@@ -1,5 +1,6 @@
 use Rattle.std.proofs.Common.{◌≡◌, ◌+◌, [], length, map, sym, ap, ◌∙◌, arith}
 use Rattle.std.proofs.lemmas.Option.{get_or_from_slice_get}
+use Rattle.spf_perm.specs.Perm.{AreInverse}
 use Rattle.spf_touch.specs.declared.touch.Touch.{Touch}
 use Rattle.spf_plan.specs.Seeded.{elements_at}
 use Rattle.spf_plan.proofs.Views.{elements_more, iteration_read, starts_pushed, view_is}
@@ -12,7 +13,7 @@ loop-position-preserved c =
     let of = c.args.of in
     let order = c.args.order.now in
     let position = c.loop-position.position in
-    let back = c.in_ok-back.ensures in
+    let back : AreInverse order c.in_ok-back.back = rw c.in_ok-back.ensures.0 at c.inverse.ensures in
     let read = iteration_read order c.in_ok-back.back c.requires.perm back position (omega arith) (omega (arith, c.at.ensures.below, back.lengths, c.at.ensures.place)) ∙ sym c.at.ensures.place in
     let touched = get_or_from_slice_get touches (c.before-first.result + c.at.result) c.of.result.now [] c.of.ensures.list in
     let here : elements_at touches shape of order position ≡ map (λ (t : Touch). t.element) c.of.result.now = rw (read, ← c.before-first.ensures) (ap (map (λ (t : Touch). t.element)) touched) in

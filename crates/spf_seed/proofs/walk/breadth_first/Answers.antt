@@ -1,11 +1,11 @@
 use Rattle.std.proofs.Common.{◌≡◌, ℕ, ◌<◌, ◌++◌, [], ◌∷◌, List, false, length, eqb, sym, ap, ◌∙◌, inl, inr, rules, arith}
 use Rattle.std.proofs.lemmas.Bool.{cases_lt, eq-eqb, or_left, or_right}
 use Rattle.std.proofs.lemmas.List.{get_or_default}
-use Rattle.spf_seed.specs.Listed.{is_in}
+use Rattle.spf_touch.specs.Ordered.{is_in}
 use Rattle.spf_seed.specs.View.{AreNeighbours, positions}
 use Rattle.spf_seed.proofs.Following.{order_whole}
 use Rattle.spf_seed.proofs.Keeping.{begun}
-use Rattle.spf_seed.proofs.Members.{in_with}
+use Rattle.spf_touch.proofs.Listed.{in_with}
 use Rattle.spf_seed.proofs.walk.breadth_first.Goals as goal
 use Rattle.spf_seed.proofs.walk.breadth_first.Goals.{then-not-index+in_ok-put+in_ok-exhaust, else-not-index}
 

@@ -1,5 +1,5 @@
 use Rattle.std.proofs.Common.{◌≡◌, ◌<◌, ℕ, length, true}
-use Rattle.spf_seed.specs.Listed.{is_in}
+use Rattle.spf_touch.specs.Ordered.{is_in}
 use Rattle.spf_seed.specs.Listings.{IsListing, IsUnderway}
 use Rattle.spf_seed.specs.View.{AreNeighbours, positions}
 use Rattle.spf_seed.proofs.walk.breadth_first.Given as goal

@@ -1,7 +1,7 @@
 use Rattle.std.proofs.Common.{◌≡◌, ℕ, ◌<◌, get_or, inl, inr, rules, arith}
 use Rattle.std.proofs.lemmas.Bool.{cases_lt}
 use Rattle.std.proofs.lemmas.List.Quantifiers.{all_pairs_push}
-use Rattle.spf_layers.proofs.Members.{in_at}
+use Rattle.spf_touch.proofs.Members.{in_at}
 use Rattle.spf_tiles.proofs.Adding.{is_in_push}
 use Rattle.spf_tiles.proofs.closure.listed.Goals as goal
 use Rattle.spf_tiles.proofs.closure.listed.Goals.{then-contains+in_ok-push, else-contains}

@@ -1,4 +1,4 @@
-use Rattle.spf_layers.proofs.Members.{in_at}
+use Rattle.spf_touch.proofs.Members.{in_at}
 use Rattle.spf_tiles.proofs.feet.touches_of.Goals as goal
 
 pub push_touches-requires : goal.push_touches-requires

@@ -1,5 +1,5 @@
 use Rattle.std.proofs.Common.{◌≡◌, ◌<◌, ℕ, get_or, inr, refl, sym, ◌∙◌, rules, arith}
-use Rattle.spf_layers.proofs.Members.{in_at}
+use Rattle.spf_touch.proofs.Members.{in_at}
 use Rattle.spf_tiles.specs.TileSets.{Has}
 use Rattle.spf_tiles.proofs.Adding.{grown_below, grown_first, grown_like, kept, listed}
 use Rattle.spf_tiles.proofs.TileSets.{none_has}

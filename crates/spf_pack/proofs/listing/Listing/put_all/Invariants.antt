@@ -1,5 +1,5 @@
 use Rattle.std.proofs.Common.{◌≡◌, length, drop}
-use Rattle.spf_pack.specs.FirstTouch.{all_listed}
+use Rattle.spf_touch.specs.Listed.{all_listed}
 use Rattle.spf_pack.specs.Listings.{IsListing}
 use Rattle.spf_pack.proofs.listing.Listing.put_all.Given as goal
 

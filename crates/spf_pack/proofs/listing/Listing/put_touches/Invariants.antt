@@ -1,5 +1,6 @@
 use Rattle.std.proofs.Common.{◌≡◌, length, drop}
-use Rattle.spf_pack.specs.FirstTouch.{all_listed, touched_places}
+use Rattle.spf_touch.specs.Listed.{all_listed}
+use Rattle.spf_pack.specs.FirstTouch.{touched_places}
 use Rattle.spf_pack.specs.Listings.{IsListing}
 use Rattle.spf_pack.proofs.listing.Listing.put_touches.Given as goal
 

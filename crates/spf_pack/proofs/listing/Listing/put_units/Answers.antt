@@ -1,7 +1,7 @@
 use Rattle.std.proofs.Common.{◌∙◌}
 use Rattle.spf_touch.specs.Repeated.{touches_at}
 use Rattle.spf_pack.specs.FirstTouch.{touched_places}
-use Rattle.spf_pack.proofs.Listed.{rows_more}
+use Rattle.spf_touch.proofs.Listed.{rows_more}
 use Rattle.spf_pack.proofs.listing.Listing.put_units.Goals as goal
 
 pub put_touches-requires-clause-members : goal.put_touches-requires-clause-members

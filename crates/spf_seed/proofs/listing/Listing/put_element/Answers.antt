@@ -1,7 +1,7 @@
 use Rattle.std.proofs.Common.{◌∙◌, ap, sym, true, false, length, slice_set, List, Bool, arith}
 use Rattle.std.proofs.lemmas.List.{get_or_default}
 use Rattle.spf_seed.specs.Entries.{positions_in}
-use Rattle.spf_seed.specs.Listed.{all_listed}
+use Rattle.spf_touch.specs.Listed.{all_listed}
 use Rattle.spf_seed.specs.declared.inverted.Entry.{Entry}
 use Rattle.spf_seed.proofs.Keeping.{element_done, nothing_new}
 use Rattle.spf_seed.proofs.Rows.{row_begins}

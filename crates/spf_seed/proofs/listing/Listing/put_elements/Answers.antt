@@ -1,5 +1,5 @@
 use Rattle.spf_seed.specs.Entries.{positions_in, row_of}
-use Rattle.spf_seed.proofs.Members.{rows_more}
+use Rattle.spf_touch.proofs.Listed.{rows_more}
 use Rattle.spf_seed.proofs.listing.Listing.put_elements.Goals as goal
 
 pub loop-element-preserved : goal.loop-element-preserved

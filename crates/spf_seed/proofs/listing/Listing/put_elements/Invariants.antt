@@ -1,7 +1,7 @@
 use Rattle.std.proofs.Common.{◌≡◌, length, drop}
 use Rattle.std.specs.List.{flat_map}
 use Rattle.spf_seed.specs.Entries.{positions_in, row_of}
-use Rattle.spf_seed.specs.Listed.{all_listed}
+use Rattle.spf_touch.specs.Listed.{all_listed}
 use Rattle.spf_seed.specs.Listings.{IsListing}
 use Rattle.spf_seed.proofs.listing.Listing.put_elements.Given as goal
 

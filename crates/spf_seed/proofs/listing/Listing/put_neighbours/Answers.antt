@@ -1,10 +1,10 @@
 use Rattle.std.proofs.Common.{◌≡◌, refl, ◌∙◌, length, get_or, true, rules, arith}
 use Rattle.std.proofs.lemmas.List.{get_or_default}
-use Rattle.spf_seed.specs.Listed.{is_in}
+use Rattle.spf_touch.specs.Ordered.{is_in}
 use Rattle.spf_seed.specs.View.{AreNeighbours, positions, touched}
 use Rattle.spf_seed.proofs.Following.{order_below}
 use Rattle.spf_seed.proofs.Keeping.{after_long, listing_alike, new_in, new_longer, new_underway}
-use Rattle.spf_seed.proofs.Members.{in_at}
+use Rattle.spf_touch.proofs.Members.{in_at}
 use Rattle.spf_seed.proofs.Rows.{all_below, row_there}
 use Rattle.spf_seed.proofs.listing.Listing.put_neighbours.Goals as goal
 

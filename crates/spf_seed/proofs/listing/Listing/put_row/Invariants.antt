@@ -1,6 +1,6 @@
 use Rattle.std.proofs.Common.{◌≡◌, length, drop}
 use Rattle.spf_seed.specs.Entries.{positions_in}
-use Rattle.spf_seed.specs.Listed.{all_listed}
+use Rattle.spf_touch.specs.Listed.{all_listed}
 use Rattle.spf_seed.specs.Listings.{AreFlags}
 use Rattle.spf_seed.proofs.listing.Listing.put_row.Given as goal
 

@@ -4,13 +4,13 @@ use Rattle.std.specs.List.{AllPairs, range_with_len}
 use Rattle.std.specs.List.Sorted.{IsNonDecreasingBy, IsPermutation}
 use Rattle.spf_space.specs.Places.{ArePlacesOf, IsBelow, number_of, place_of}
 use Rattle.spf_space.specs.Units.{units_of}
+use Rattle.spf_space.specs.declared.in_order.Turn.{Turn}
 use Rattle.spf_space.specs.declared.places.Places.{Places}
 use Rattle.spf_space.specs.declared.shape.Shape.{Shape}
-use Rattle.spf_pack.specs.declared.in_order.Turn.{Turn}
 
 -- how many units there are
-abbrev pub count_in : Shape → ℕ
-count_in shape = length (units_of shape.steps shape.loops)
+abbrev pub units_in : Shape → ℕ
+units_in shape = length (units_of shape.steps shape.loops)
 
 -- these are the places of the units
 abbrev pub ArePlacesIn : Shape → Places → Type 0
@@ -22,7 +22,7 @@ ComesBefore shape places u v = IsBelow (place_of shape.steps shape.loops places.
 
 -- each unit stands in the list once, and its place is below those of all units behind it
 pub record AreInOrder (shape : Shape) (places : Places) (units : List ℕ) : Type 0 where
-  pub each : IsPermutation (range_with_len 0 (count_in shape)) units
+  pub each : IsPermutation (range_with_len 0 (units_in shape)) units
   pub order : AllPairs (ComesBefore shape places) units
 
 -- the unit with the number of its place
@@ -31,5 +31,5 @@ turn_of shape places u = record { number = number_of shape.steps shape.loops pla
 
 -- each unit has one turn, and the numbers don't fall
 pub record AreTurns (shape : Shape) (places : Places) (turns : List Turn) : Type 0 where
-  pub each : IsPermutation (map (turn_of shape places) (range_with_len 0 (count_in shape))) turns
+  pub each : IsPermutation (map (turn_of shape places) (range_with_len 0 (units_in shape))) turns
   pub rising : IsNonDecreasingBy (λ (turn : Turn). turn.number) turns

@@ -1,9 +1,9 @@
 use Rattle.std.proofs.Common.{List, map, sym, ap, subst, ◌∙◌}
 use Rattle.std.proofs.lemmas.Result.{IfOk-weaker}
-use Rattle.spf_pack.specs.InOrder.{AreInOrder}
-use Rattle.spf_pack.specs.declared.in_order.Turn.{Turn}
-use Rattle.spf_pack.proofs.Ordered.{units_ordered}
-use Rattle.spf_pack.proofs.in_order.units_in_order.Goals as goal
+use Rattle.spf_space.specs.InOrder.{AreInOrder}
+use Rattle.spf_space.specs.declared.in_order.Turn.{Turn}
+use Rattle.spf_space.proofs.InOrder.{units_ordered}
+use Rattle.spf_space.proofs.in_order.units_in_order.Goals as goal
 
 pub returns : goal.returns
 returns c =

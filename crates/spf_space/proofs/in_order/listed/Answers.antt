@@ -1,7 +1,7 @@
 use Rattle.std.proofs.Common.{sym, arith}
 use Rattle.std.proofs.lemmas.List.FromFn.{map-range_with_len_more}
-use Rattle.spf_legal.specs.Turns.{turn_of}
-use Rattle.spf_legal.proofs.turns.listed.Goals as goal
+use Rattle.spf_space.specs.InOrder.{turn_of}
+use Rattle.spf_space.proofs.in_order.listed.Goals as goal
 
 pub loop-unit-preserved : goal.loop-unit-preserved
 loop-unit-preserved c =

@@ -3,11 +3,11 @@
 ghost use Rattle.std.specs.Prelude.{◌≡◌, IfOk, map};
 ghost use Rattle.std.specs.List.{range_with_len};
 ghost use Rattle.std.specs.List.Sorted.{IsNonDecreasingBy, IsPermutation};
-ghost use Rattle.spf_legal.specs.Falling.{ArePlacesIn, number_in, units_in};
-ghost use Rattle.spf_legal.specs.Turns.{AreTurns, turn_of};
+ghost use Rattle.spf_space.specs.InOrder.{AreInOrder, ArePlacesIn, AreTurns, turn_of, units_in};
 
+use crate::places::Places;
+use crate::shape::Shape;
 use spf_base::NoMemory;
-use spf_space::{Places, Shape};
 use std::alloc::Global;
 
 /// A unit, and the number of its place.
@@ -41,12 +41,32 @@ fn sort(turns: &mut [Turn])
     turns.sort_unstable_by_key(|turn| turn.number);
 }
 
-/// All units, in the order of their places. It takes n log n steps for n units, and 16 bytes for each.
-pub(crate) fn turns(alloc: Global, shape: &Shape, places: &Places) -> Result<Vec<Turn>, NoMemory>
+/// All units, with the numbers of their places, in the order of these.
+fn turns(alloc: Global, shape: &Shape, places: &Places) -> Result<Vec<Turn>, NoMemory>
     requires { ArePlacesIn shape.now places.now }
     ensures { IfOk result (λ turns. AreTurns shape.now places.now turns.items) }
 {
     let mut turns = listed(alloc, shape, places)?;
     sort(turns.as_mut_slice());
     Ok(turns)
+}
+
+/// The units of the turns.
+fn units_of_turns(alloc: Global, turns: &[Turn]) -> Result<Vec<u32>, NoMemory>
+    ensures { IfOk result (λ units. units.items ≡ map (λ (turn : Turn). turn.unit) turns.now) }
+{
+    let mut units = Vec::with_capacity(alloc, turns.len())?;
+    for turn in turns {
+        units.push(turn.unit)?;
+    }
+    Ok(units)
+}
+
+/// All units, in the order of their places. It takes n log n steps for n units, and 20 bytes for each.
+pub fn units_in_order(alloc: Global, shape: &Shape, places: &Places) -> Result<Vec<u32>, NoMemory>
+    requires { ArePlacesIn shape.now places.now }
+    ensures { IfOk result (λ units. AreInOrder shape.now places.now units.items) }
+{
+    let turns = turns(alloc, shape, places)?;
+    units_of_turns(alloc, turns.as_slice())
 }
