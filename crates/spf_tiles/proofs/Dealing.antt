@@ -1,5 +1,5 @@
 -- Units that are dealt to their tiles.
-use Rattle.std.proofs.Common.{◌≡◌, ◌≢◌, ℕ, suc, ◌+◌, ◌<◌, true, ◌&&◌, List, [], ◌∷◌, ◌++◌, length, get_or, set, take, filter, inl, inr, refl, sym, ap, ◌∙◌, eqb, append_assoc, append-nil, arith}
+use Rattle.std.proofs.Common.{◌≡◌, ◌≢◌, ℕ, ◌+◌, ◌<◌, List, [], ◌∷◌, ◌++◌, length, get_or, set, take, inl, inr, refl, sym, ap, ◌∙◌, eqb, append_assoc, append-nil}
 use Rattle.std.proofs.lemmas.Bool.{and_from, and_parts, cases_eq, eq-eqb, eqb-true, ne_eqb}
 use Rattle.std.proofs.lemmas.Grind.{get_or-set_at}
 use Rattle.std.proofs.lemmas.List.{get_or-set_other}
@@ -11,7 +11,6 @@ use Rattle.spf_space.specs.Places.{Place, place_of}
 use Rattle.spf_space.specs.declared.places.Places.{Places}
 use Rattle.spf_space.specs.declared.shape.Shape.{Shape}
 use Rattle.spf_touch.proofs.Members.{in_filter}
-use Rattle.spf_touch.specs.Ordered.{is_in}
 use Rattle.spf_tiles.specs.Lists.{AreLists, dealt_to}
 
 -- one more unit
