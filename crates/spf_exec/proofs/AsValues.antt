@@ -22,38 +22,25 @@ use Rattle.spf_store.specs.Effect.{fact_value, facts_value, prods_value, signed}
 use Rattle.spf_store.specs.Products.{product, sum}
 use Rattle.spf_store.specs.Event.{Read}
 use Rattle.spf_store.specs.Trace.{fact_trace, facts_trace, prods_trace, term_trace, value_trace}
+use Rattle.spf_store.proofs.Rows.{KeepsInTurn, value_is, value_keeps}
 use Rattle.spf_exec.specs.Rewritten.{as_value, factor_of, is_negative, products_of}
 use Rattle.spf_exec.proofs.Alike.{Silent, both_silent, reads_silent}
 
 -- ---- values made of lists
 
 module _ (p : Property) where
-  abbrev pub KeepsProd : Prod → Type 0
-  KeepsProd prod = AllByRecursion (KeepsFactor p) prod.facts
-
-  factors_kept : {n : _} (row : Row_of-Factor n) → AllByRecursion (KeepsFactor p) (items-the_row-Factor n row) → KeepFactors p row
-  factors_kept end_of-Factor each = tt
-  factors_kept (more_of-Factor fact others) each = (each.0, factors_kept others each.1)
-
-  prods_kept : {n : _} (row : Row_of-Prod n) → AllByRecursion KeepsProd (items-the_row-Prod n row) → KeepProds p row
-  prods_kept end_of-Prod each = tt
-  prods_kept (more_of-Prod minus shape facts others) each =
-      (factors_kept facts (subst (AllByRecursion (KeepsFactor p)) (items_shown-the_row-Factor-0 shape facts) each.0), prods_kept others each.1)
-
-  value_kept_by : (value : Value) → AllByRecursion KeepsProd (out-Value value).prods → KeepsValue p value
-  unfolding out-Value denote.Hole.Carrier.out
-  value_kept_by (Value' shape prods) each = prods_kept prods (subst (AllByRecursion KeepsProd) (items_shown-the_row-Prod-1 shape prods) each)
-
   -- a term as a value keeps what numbers and its atoms as factors keep
   module _ (number : (n : ℕ) → p.leaf (factor_is.Number n)) where
-    products_kept : (monos : List Mono) (constant : ℤ) → AllByRecursion (λ (mono : Mono). KeepsFactor p (factor_of mono.atom)) monos → AllByRecursion KeepsProd (products_of monos constant)
+    products_kept : (monos : List Mono) (constant : ℤ) → AllByRecursion (λ (mono : Mono). KeepsFactor p (factor_of mono.atom)) monos → AllByRecursion (KeepsInTurn p) (products_of monos constant)
     products_kept [] constant each = ((number (unsigned_abs constant), tt), tt)
     products_kept (mono ∷ monos) constant each = ((number (unsigned_abs mono.coef), (each.0, tt)), products_kept monos constant each.1)
 
     pub term_kept : (term : Term) → AllByRecursion (λ (mono : Mono). KeepsFactor p (factor_of mono.atom)) (out-Term term).monos → KeepsValue p (as_value term)
     term_kept term each =
         let prods = products_of (out-Term term).monos (out-Term term).constant in
-        value_kept_by (as_value term) (subst (λ (of : List Prod). AllByRecursion KeepsProd of) (sym (ap (λ value. value.prods) (out-roll-Value (record { prods = prods })))) (products_kept (out-Term term).monos (out-Term term).constant each))
+        let listed : AllByRecursion (KeepsInTurn p) (out-Value (as_value term)).prods =
+        subst (AllByRecursion (KeepsInTurn p)) (sym (ap (λ value. value.prods) (out-roll-Value (record { prods = prods })))) (products_kept (out-Term term).monos (out-Term term).constant each) in
+        subst (λ (keeps : Type 0). keeps) (sym (value_keeps p (as_value term))) listed
 
 -- ---- traces
 
@@ -117,21 +104,6 @@ times_one : (number : ℤ) → number *ℤ pos 1 ≡ number
 times_one number = omega (arith, ints)
 
 module _ (env : Environment) (starts : List ℕ) (variables : List ℤ) (cells : ℕ → ℤ) where
-  facts_are : {n : _} (row : Row_of-Factor n) → facts_value env starts variables cells row ≡ product env starts variables cells (items-the_row-Factor n row)
-  facts_are end_of-Factor = refl
-  facts_are (more_of-Factor fact others) = ap (λ rest. fact_value env starts variables cells fact *ℤ rest) (facts_are others)
-
-  prods_are : {n : _} (row : Row_of-Prod n) → prods_value env starts variables cells row ≡ sum env starts variables cells (items-the_row-Prod n row)
-  prods_are end_of-Prod = refl
-  prods_are (more_of-Prod minus shape facts others) =
-      let here = facts_are facts ∙ ap (product env starts variables cells) (sym (items_shown-the_row-Factor-0 shape facts)) in
-      let more = prods_are others in
-      λ i. signed minus (here i) +ℤ more i
-
-  value_is : (value : Value) → effect.value env starts variables cells value ≡ sum env starts variables cells (out-Value value).prods
-  unfolding out-Value denote.Hole.Carrier.out
-  value_is (Value' shape prods) = prods_are prods ∙ ap (sum env starts variables cells) (sym (items_shown-the_row-Prod-1 shape prods))
-
   atom_is : (atom : Atom) → fact_value env starts variables cells (factor_of atom) ≡ atom_value env variables atom
   atom_is (Var number) = refl
   atom_is (Param number) = refl
@@ -153,5 +125,5 @@ module _ (env : Environment) (starts : List ℕ) (variables : List ℤ) (cells :
   pub term_value : (of : Term) → effect.value env starts variables cells (as_value of) ≡ term.value env variables of
   term_value of =
       let prods = products_of (out-Term of).monos (out-Term of).constant in
-      value_is (as_value of) ∙ ap (λ value. sum env starts variables cells value.prods) (out-roll-Value (record { prods = prods }))
+      value_is env starts variables cells (as_value of) ∙ ap (λ value. sum env starts variables cells value.prods) (out-roll-Value (record { prods = prods }))
       ∙ products_are (out-Term of).monos (out-Term of).constant ∙ sym (monos.value_is env variables of)

@@ -31,7 +31,8 @@ use Rattle.spf_exec.specs.declared.program.Body.{Body}
 use Rattle.spf_exec.specs.declared.program.Moved.{Moved}
 use Rattle.spf_exec.specs.declared.program.Program.{Program}
 use Rattle.spf_exec.proofs.AlikeUnits.{mine_is}
-use Rattle.spf_exec.proofs.Behaving.{in_range, is_unit}
+use Rattle.spf_store.proofs.UnitAt.{in_range}
+use Rattle.spf_exec.proofs.Behaving.{is_unit}
 
 body_at : (tree : Tree) (moved : Moved) (from n : ℕ) (loops : List Loop) (loop : Loop) → slice_get loops n ≡ Some loop → slice_get (bodies_from tree moved from loops) n ≡ Some (body_of tree moved (from + n) loop)
 body_at tree moved from n [] loop at = cc

@@ -37,7 +37,7 @@ use Rattle.spf_store.specs.FirstFault.{AreInRange, IsInRange, outside, walked}
 use Rattle.spf_store.specs.Needs.{OwnsAll}
 use Rattle.spf_store.specs.Shaped.{loop_shape, loops_of, starts_of}
 use Rattle.spf_store.specs.Source.{unit_effect, unit_trace}
-use Rattle.spf_store.proofs.SmallNumbers.{all_at}
+use Rattle.spf_store.proofs.UnitAt.{unit_after}
 use Rattle.spf_exec.specs.Executor.{executor_env, new_position}
 use Rattle.spf_exec.specs.Meaning.{IsUnit, executor_effect, executor_trace, items_at, position_trace}
 use Rattle.spf_exec.specs.declared.program.Moved.{Moved}
@@ -82,33 +82,6 @@ module _ (env : Environment) (tree : Tree) (steps u : ℕ) (inside : u < (source
       let it = has_loop env tree.loops unit.loop_no of.loop of.there in
       record { loop = it.loop; there = it.there; inside = subst (λ (shape : LoopShape). unit.position < shape.extent) (sym it.shape_is) of.position }
 
-  pub in_range : (0 < steps → AreInRange env tree) → IsInRange env tree unit
-  in_range range =
-      let some : 0 < steps = omega (arith, (split_is_within steps (loops_of env tree) u inside).1) in
-      let first = all_at (IsInRange env tree) (loops_units 0 0 (loops_of env tree)) _ _ (range some) (first_stands env tree steps u inside) in
-      subst (All (λ event. outside env tree event ≡ None)) (sym (same_trace env tree steps u inside)) first
-
-  -- it has a touch list
-  pub listed : (lists : List (List Touch)) → lists ≡ touches_of env tree steps → (0 < length lists) × (u % length lists < length lists)
-  unfolding touches_of
-  listed lists same =
-      let split = split_is_within steps (loops_of env tree) u inside in
-      let long : length lists ≡ iterations (loops_of env tree) =
-      ap length same ∙ length-map (loops_units 0 0 (loops_of env tree)) (λ unit. touches_in (starts_of env tree) (walked env tree steps unit)) ∙ step_length 0 0 (loops_of env tree) in
-      rw long (split.0, split.2)
-
-  pub list_read : (lists : List (List Touch)) (list : List Touch) → lists ≡ touches_of env tree steps → slice_get lists (u % length lists) ≡ Some list → list ≡ (source_behavior env tree steps).touches u
-  list_read lists list same at = sym (get_or_from_slice_get lists (u % length lists) list [] at) ∙ ap (λ (of : List (List Touch)). touches_at of u) same
-
-  -- a unit's effect is what the behavior says
-  source_after : (values : ℕ → ℤ) (e : ℕ) → unit_effect env tree unit values e ≡ after_unit (source_behavior env tree steps) u values e
-  source_after values e =
-      let touch = sym (touch_is env tree steps u inside) in
-      let give = sym (give_is env tree steps u inside values) in
-      ap (λ (made : ℕ → ℤ). made e) (effect_is_performed env (starts_of env tree) (unit_trace env tree unit) values)
-      ∙ actions_effect (actions_at env tree steps u) values e
-      ∙ (λ i. frame.effect (touch i) (give i) values e)
-
   module _ (moved : Moved) (orders packings : List (List ℤ)) (renaming : Renaming) where
     abbrev exec : Environment
     exec = executor_env env orders packings
@@ -142,7 +115,7 @@ module _ (env : Environment) (tree : Tree) (steps u : ℕ) (inside : u < (source
       module _ (effects : (values : ℕ → ℤ) (e : ℕ) → executor_effect env tree moved orders packings unit values (renaming.to e) ≡ unit_effect env tree unit (unpacked renaming values) e) where
         touched_after : (values : ℕ → ℤ) (e : ℕ) → executor_effect env tree moved orders packings unit values (renaming.to e) ≡ after_unit (renamed_units renaming (source_behavior env tree steps)) u values (renaming.to e)
         touched_after values e =
-            effects values e ∙ source_after (unpacked renaming values) e
+            effects values e ∙ unit_after env tree steps u inside (unpacked renaming values) e
             ∙ sym (λ i. blend_at (class_there renaming ((source_behavior env tree steps).touches u) e i) (values (renaming.to e)) ((source_behavior env tree steps).given u (unpacked renaming values) (renaming.returns e i)))
 
         pub mine_after : (values : ℕ → ℤ) (x : ℕ) → executor_effect env tree moved orders packings unit values x ≡ after_unit (renamed_units renaming (source_behavior env tree steps)) u values x

@@ -22,7 +22,7 @@ use Rattle.spf_store.specs.Accesses.{accesses_of, touches_in, touches_of}
 use Rattle.spf_store.specs.FirstFault.{AreInRange, IsInRange, outside, walked}
 use Rattle.spf_store.specs.Shaped.{loops_of, starts_of}
 use Rattle.spf_store.specs.Source.{source_result, unit_effect, unit_trace, units_effect}
-use Rattle.spf_store.proofs.SmallNumbers.{all_at}
+use Rattle.spf_store.proofs.UnitAt.{in_range, unit_after}
 use Rattle.spf_store.specs.ActionEffect.{effect_is_performed}
 use Rattle.spf_store.specs.Behavior.{source_behavior, unit_at}
 use Rattle.spf_store.specs.BehaviorLaw.{actions_at, first_stands, give_is, same_trace, touch_is, touches_are}
@@ -42,21 +42,12 @@ module _ (env : Environment) (tree : Tree) (steps : ℕ) where
   abbrev all : List Unit
   all = units_of steps (loops_of env tree)
 
-  -- a unit's effect is what the behavior says
-  pub unit_after : (u : ℕ) → u < units.count → (values : ℕ → ℤ) (e : ℕ) → unit_effect env tree (unit_at env tree steps u) values e ≡ after_unit units u values e
-  unit_after u inside values e =
-      let touch = sym (touch_is env tree steps u inside) in
-      let give = sym (give_is env tree steps u inside values) in
-      ap (λ (made : ℕ → ℤ). made e) (effect_is_performed env (starts_of env tree) (unit_trace env tree (unit_at env tree steps u)) values)
-      ∙ actions_effect (actions_at env tree steps u) values e
-      ∙ (λ i. frame.effect (touch i) (give i) values e)
-
   run_from : (from n : ℕ) → from + n < units.count + 1 → (values : ℕ → ℤ) →
       after_units units (range_with_len from n) values ≡ units_effect env tree (map (unit_at env tree steps) (range_with_len from n)) values
   run_from from zero inside values = refl
   run_from from (suc n) inside values =
       run_from (from + 1) n (omega (arith, inside)) (after_unit units from values)
-      ∙ ap (units_effect env tree (map (unit_at env tree steps) (range_with_len (from + 1) n))) (fun_ext (λ e. sym (unit_after from (omega (arith, inside)) values e)))
+      ∙ ap (units_effect env tree (map (unit_at env tree steps) (range_with_len (from + 1) n))) (fun_ext (λ e. sym (unit_after env tree steps from (omega (arith, inside)) values e)))
 
   -- all units in ascending order
   pub ascending : (values : ℕ → ℤ) → after_units units (range_with_len 0 units.count) values ≡ source_result env tree steps values
@@ -68,27 +59,12 @@ module _ (env : Environment) (tree : Tree) (steps : ℕ) where
   -- ---- the unit of an ordinal
 
   module _ (u : ℕ) (inside : u < units.count) where
-    -- it has a touch list
-    pub listed : (lists : List (List Touch)) → lists ≡ touches_of env tree steps → (0 < length lists) × (u % length lists < length lists)
-    unfolding touches_of
-    listed lists same =
-        let split = split_is_within steps (loops_of env tree) u inside in
-        let long : length lists ≡ iterations (loops_of env tree) =
-        ap length same ∙ length-map (loops_units 0 0 (loops_of env tree)) (λ unit. touches_in (starts_of env tree) (walked env tree steps unit)) ∙ step_length 0 0 (loops_of env tree) in
-        rw long (split.0, split.2)
-
-    pub list_read : (lists : List (List Touch)) (list : List Touch) → lists ≡ touches_of env tree steps → slice_get lists (u % length lists) ≡ Some list → list ≡ units.touches u
-    list_read lists list same at = sym (get_or_from_slice_get lists (u % length lists) list [] at) ∙ ap (λ (of : List (List Touch)). touches_at of u) same
-
     module _ (unit : Unit) (at : slice_get all u ≡ Some unit) where
       unit_is : unit_at env tree steps u ≡ unit
       unit_is = get_or_from_slice_get all u unit (record { step = 0; loop_no = 0; position = 0 }) at
 
       pub unit_range : (0 < steps → AreInRange env tree) → IsInRange env tree unit
-      unit_range range =
-          let some : 0 < steps = omega (arith, (split_is_within steps (loops_of env tree) u inside).1) in
-          let first = all_at (IsInRange env tree) (loops_units 0 0 (loops_of env tree)) _ _ (range some) (first_stands env tree steps u inside) in
-          subst (All (λ event. outside env tree event ≡ None)) (sym (same_trace env tree steps u inside) ∙ ap (unit_trace env tree) unit_is) first
+      unit_range range = subst (IsInRange env tree) unit_is (in_range env tree steps u inside range)
 
       -- who owns what it touches owns what it accesses
       pub unit_own : (owns : ℕ → Bool) → ((e : ℕ) → IsTouched (units.touches u) e → owns e ≡ true) → OwnsAll owns (accesses_of (starts_of env tree) (unit_trace env tree unit))
@@ -98,4 +74,4 @@ module _ (env : Environment) (tree : Tree) (steps : ℕ) where
           (λ e touched. own e (subst (λ (touches : List Touch). IsTouched touches e) (sym (touches_are env tree steps u inside)) touched)))
 
       pub unit_done : (values : ℕ → ℤ) (e : ℕ) → unit_effect env tree unit values e ≡ after_unit units u values e
-      unit_done values e = ap (λ (of : Unit). unit_effect env tree of values e) (sym unit_is) ∙ unit_after u inside values e
+      unit_done values e = ap (λ (of : Unit). unit_effect env tree of values e) (sym unit_is) ∙ unit_after env tree steps u inside values e

@@ -12,4 +12,5 @@ mod Inners
 pub mod Layouts
 mod SmallItems
 pub mod SmallNumbers
+pub mod UnitAt
 mod Wrapped

@@ -2,13 +2,13 @@
 use Rattle.std.proofs.Common.{◌≡◌, ℕ, ◌+◌, ◌<◌, ℤ, pos, ◌+ℤ◌, ◌*ℤ◌, Bool, FitsSigned, w64, List, ◌∷◌, All, length, drop, get_or, refl, ap, sym, ◌∙◌, ◌≤◌, subst, arith}
 use Rattle.std.proofs.lemmas.Int.{ints}
 use Rattle.std.proofs.lemmas.List.{drop_all, drop_more}
-use Rattle.std.proofs.lemmas.List.Elements.{All-cons}
+use Rattle.std.specs.List.{AllByRecursion}
+use Rattle.std.proofs.lemmas.List.Elements.{All-from_recursion, All-weaker}
 use Rattle.spf_base.specs.Wrap.{wrap}
 use Rattle.spf_term.specs.Environment.{Environment}
 use Rattle.spf_kernel.specs.Kept.{Property, KeepsValue, KeepProds, KeepFactors, KeepsFactor}
 use Rattle.spf_kernel.specs.declared.tree.Value.{Value, Value', out-Value, Row_of-Prod, end_of-Prod, more_of-Prod, items-the_row-Prod, items_shown-the_row-Prod-1, Row_of-Factor, end_of-Factor, more_of-Factor, items-the_row-Factor, items_shown-the_row-Factor-0}
 use Rattle.spf_kernel.specs.declared.tree.Factor.{Factor}
-use Rattle.spf_kernel.specs.declared.tree.Factor.TheBlock.{shown-the_row-Factor-0}
 use Rattle.spf_kernel.specs.declared.tree.Prod.{Prod}
 use Rattle.spf_store.specs.Effect.{fact_value, facts_value, prods_value, signed}
 use Rattle.spf_store.specs.Effect as effect
@@ -27,7 +27,7 @@ module _ (env : Environment) (starts : List ℕ) (variables : List ℤ) (cells :
       let more = prods_are others in
       λ i. signed minus (here i) +ℤ more i
 
-  value_is : (value : Value) → effect.value env starts variables cells value ≡ sum env starts variables cells (out-Value value).prods
+  pub value_is : (value : Value) → effect.value env starts variables cells value ≡ sum env starts variables cells (out-Value value).prods
   unfolding out-Value denote.Hole.Carrier.out
   value_is (Value' shape prods) = prods_are prods ∙ ap (sum env starts variables cells) (sym (items_shown-the_row-Prod-1 shape prods))
 
@@ -80,19 +80,29 @@ module _ (p : Property) where
   abbrev pub KeepsProd : Prod → Type 0
   KeepsProd prod = All (KeepsFactor p) prod.facts
 
-  facts_kept : {n : _} (row : Row_of-Factor n) → KeepFactors p row → All (KeepsFactor p) (items-the_row-Factor n row)
-  facts_kept end_of-Factor kept = λ k d inside. absurd (omega arith)
-  facts_kept (more_of-Factor factor others) kept = All-cons (KeepsFactor p) factor (items-the_row-Factor _ others) kept.0 (facts_kept others kept.1)
+  abbrev pub KeepsInTurn : Prod → Type 0
+  KeepsInTurn prod = AllByRecursion (KeepsFactor p) prod.facts
 
-  prods_kept : {n : _} (row : Row_of-Prod n) → KeepProds p row → All KeepsProd (items-the_row-Prod n row)
-  prods_kept end_of-Prod kept = λ k d inside. absurd (omega arith)
-  prods_kept (more_of-Prod minus shape facts others) kept =
-      All-cons KeepsProd (record { minus = minus; facts = shown-the_row-Factor-0 shape facts }) (items-the_row-Prod _ others)
-      (subst (All (KeepsFactor p)) (sym (items_shown-the_row-Factor-0 shape facts)) (facts_kept facts kept.0)) (prods_kept others kept.1)
+  factors_keep : {n : _} (row : Row_of-Factor n) → KeepFactors p row ≡ AllByRecursion (KeepsFactor p) (items-the_row-Factor n row)
+  factors_keep end_of-Factor = refl
+  factors_keep (more_of-Factor factor others) = let more = factors_keep others in λ i. KeepsFactor p factor × more i
+
+  prods_keep : {n : _} (row : Row_of-Prod n) → KeepProds p row ≡ AllByRecursion KeepsInTurn (items-the_row-Prod n row)
+  prods_keep end_of-Prod = refl
+  prods_keep (more_of-Prod minus shape facts others) =
+      let here = factors_keep facts ∙ ap (AllByRecursion (KeepsFactor p)) (sym (items_shown-the_row-Factor-0 shape facts)) in
+      let more = prods_keep others in
+      λ i. here i × more i
+
+  -- a value keeps what the factors of its products do
+  pub value_keeps : (value : Value) → KeepsValue p value ≡ AllByRecursion KeepsInTurn (out-Value value).prods
+  unfolding out-Value denote.Hole.Carrier.out
+  value_keeps (Value' shape prods) = prods_keep prods ∙ ap (AllByRecursion KeepsInTurn) (sym (items_shown-the_row-Prod-1 shape prods))
 
   pub value_kept : (value : Value) → KeepsValue p value → All KeepsProd (out-Value value).prods
-  unfolding out-Value denote.Hole.Carrier.out
-  value_kept (Value' shape prods) kept = subst (All KeepsProd) (sym (items_shown-the_row-Prod-1 shape prods)) (prods_kept prods kept)
+  value_kept value kept =
+      let prods = (out-Value value).prods in
+      All-weaker KeepsInTurn KeepsProd (λ prod. All-from_recursion (KeepsFactor p) prod.facts) prods (All-from_recursion KeepsInTurn prods (subst (λ (keeps : Type 0). keeps) (value_keeps value) kept))
 
   pub prod_kept : (value : Value) (items : List Prod) (index : ℕ) (prod : Prod) → items ≡ (out-Value value).prods → index < length items → prod ≡ get_or items index prod →
       KeepsValue p value → KeepsProd prod

@@ -1,7 +1,8 @@
 use Rattle.spf_touch.specs.RenamingLaw.{renamed_law}
 use Rattle.spf_store.specs.Behavior.{source_behavior, unit_at}
 use Rattle.spf_store.specs.BehaviorLaw.{source_law}
-use Rattle.spf_exec.proofs.Behaving.{in_range, is_unit, mine_after, mine_owned}
+use Rattle.spf_store.proofs.UnitAt.{in_range}
+use Rattle.spf_exec.proofs.Behaving.{is_unit, mine_after, mine_owned}
 use Rattle.spf_exec.proofs.units.executor_runs_renamed_units.Goals as goal
 
 pub returns-clause-effect : goal.returns-clause-effect

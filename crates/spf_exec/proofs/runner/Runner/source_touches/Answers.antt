@@ -1,7 +1,7 @@
 use Rattle.std.proofs.Common.{◌≡◌, ℕ, ◌%◌, ◌<◌, slice_get, Some, arith, ap, sym, ◌∙◌, subst}
 use Rattle.spf_store.specs.Behavior.{source_behavior}
 use Rattle.spf_exec.specs.Running.{Executed, executor_behavior}
-use Rattle.spf_exec.proofs.Behaving.{list_read, listed}
+use Rattle.spf_store.proofs.UnitAt.{list_read, listed}
 use Rattle.spf_exec.proofs.runner.Runner.source_touches.Goals as goal
 
 pub nonzero_rem-unit : goal.nonzero_rem-unit

@@ -1,6 +1,6 @@
 use Rattle.std.proofs.Common.{◌≡◌, ℕ, ◌%◌, ◌<◌, slice_get, Some, arith, ap, sym, ◌∙◌, subst}
 use Rattle.spf_store.specs.Behavior.{Sourced, source_behavior}
-use Rattle.spf_source.proofs.Ascending.{list_read, listed}
+use Rattle.spf_store.proofs.UnitAt.{list_read, listed}
 use Rattle.spf_source.proofs.source_units.SourceUnits.touches_at.Goals as goal
 
 pub nonzero_rem-unit : goal.nonzero_rem-unit
