@@ -26,21 +26,17 @@ use Rattle.spf_store.proofs.Rows.{KeepsInTurn, value_is, value_keeps}
 use Rattle.spf_exec.specs.Rewritten.{as_value, factor_of, is_negative, products_of}
 use Rattle.spf_exec.proofs.Alike.{Silent, both_silent, reads_silent}
 
--- ---- values made of lists
+-- a term as a value keeps what numbers and its atoms as factors keep
+module _ (p : Property) (number : (n : ℕ) → p.leaf (factor_is.Number n)) where
+  products_kept : (monos : List Mono) (constant : ℤ) → AllByRecursion (λ (mono : Mono). KeepsFactor p (factor_of mono.atom)) monos → AllByRecursion (KeepsInTurn p) (products_of monos constant)
+  products_kept [] constant each = ((number (unsigned_abs constant), tt), tt)
+  products_kept (mono ∷ monos) constant each = ((number (unsigned_abs mono.coef), (each.0, tt)), products_kept monos constant each.1)
 
-module _ (p : Property) where
-  -- a term as a value keeps what numbers and its atoms as factors keep
-  module _ (number : (n : ℕ) → p.leaf (factor_is.Number n)) where
-    products_kept : (monos : List Mono) (constant : ℤ) → AllByRecursion (λ (mono : Mono). KeepsFactor p (factor_of mono.atom)) monos → AllByRecursion (KeepsInTurn p) (products_of monos constant)
-    products_kept [] constant each = ((number (unsigned_abs constant), tt), tt)
-    products_kept (mono ∷ monos) constant each = ((number (unsigned_abs mono.coef), (each.0, tt)), products_kept monos constant each.1)
-
-    pub term_kept : (term : Term) → AllByRecursion (λ (mono : Mono). KeepsFactor p (factor_of mono.atom)) (out-Term term).monos → KeepsValue p (as_value term)
-    term_kept term each =
-        let prods = products_of (out-Term term).monos (out-Term term).constant in
-        let listed : AllByRecursion (KeepsInTurn p) (out-Value (as_value term)).prods =
-        subst (AllByRecursion (KeepsInTurn p)) (sym (ap (λ value. value.prods) (out-roll-Value (record { prods = prods })))) (products_kept (out-Term term).monos (out-Term term).constant each) in
-        subst (λ (keeps : Type 0). keeps) (sym (value_keeps p (as_value term))) listed
+  pub term_kept : (term : Term) → AllByRecursion (λ (mono : Mono). KeepsFactor p (factor_of mono.atom)) (out-Term term).monos → KeepsValue p (as_value term)
+  term_kept term each =
+      let prods = products_of (out-Term term).monos (out-Term term).constant in
+      subst (λ (keeps : Type 0). keeps) (sym (value_keeps p (as_value term) ∙ ap (λ value. AllByRecursion (KeepsInTurn p) value.prods) (out-roll-Value (record { prods = prods }))))
+      (products_kept (out-Term term).monos (out-Term term).constant each)
 
 -- ---- traces
 

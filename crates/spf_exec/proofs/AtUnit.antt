@@ -44,7 +44,7 @@ body_at tree moved from (suc n) (each ∷ loops) loop at =
     let number : from + 1 + n ≡ from + suc n = omega arith in
     body_at tree moved (from + 1) n loops loop at ∙ ap (λ (of : ℕ). Some (body_of tree moved of loop)) number
 
-module _ (env executor : Environment) (tree : Tree) (shape : Shape) (touches : List (List Touch)) (moved : Moved) (program : Program) (starts : List ℕ)
+module _ {env executor : Environment} {tree : Tree} {shape : Shape} {touches : List (List Touch)} {moved : Moved} {program : Program} {starts : List ℕ}
     (is : IsRunner env executor tree shape touches moved program starts) (perms : All IsPerm (packings_of moved.arrays shape.arrays))
     (u : ℕ) (inside : u < (source_behavior env tree shape.steps).count) (unit : Unit) (at : slice_get (units_of shape.steps shape.loops) u ≡ Some unit) where
   abbrev pub renaming : Renaming

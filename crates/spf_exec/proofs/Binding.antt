@@ -22,7 +22,7 @@ use Rattle.spf_exec.specs.Meaning.{AreBound, IsPackedBy}
 use Rattle.spf_exec.specs.Moves.{AreMovesOf, AreOrderTables, IsMoveOf, extents, lengths, packing_by, packing_table, packings_of}
 use Rattle.spf_exec.specs.declared.program.Moved.{Moved}
 use Rattle.spf_exec.proofs.Orders.{extent_of}
-use Rattle.spf_exec.proofs.Packings.{any_move, at_by, have_moves, have_packings, length_of, move_at, moved_below, of_moved, packing_at}
+use Rattle.spf_exec.proofs.Packings.{any_move, array_move, at_by, have_packings, move_at, moved_below, of_moved, packing_at}
 
 -- as many tables as index arrays
 as_many_tables : (env : Environment) (decls : List Decl) (tables : List (List ℤ)) → AreTables env decls tables → length tables ≡ (counts_in decls).tables
@@ -61,15 +61,6 @@ module _ (env : Environment) (tree : Tree) (shape : Shape) (moved : Moved) (shap
     order_is orders are =
         subst (λ (of : LoopShape). IsOrderTable of.lower (get_or moved.loops loop_no None) (get_or orders loop_no [])) (loop_is (loop_shape env loop)) (are.each loop_no (loop_shape env loop) loop_there)
 
-  module _ (array : ℕ) (of : ArrayShape) (at : slice_get shape.arrays array ≡ Some of) (are : AreMovesOf (lengths shape.arrays) moved.arrays) where
-    array_there : array < length shape.arrays
-    array_there = slice_get_within shape.arrays array of at
-
-    array_move : IsMoveOf of.length (get_or moved.arrays array None)
-    array_move =
-        move_at (lengths shape.arrays) moved.arrays array of.length are (omega (arith, array_there, length-map shape.arrays length_of))
-        (get_or-map length_of shape.arrays array of 0 array_there ∙ ap length_of (get_or_from_slice_get shape.arrays array of of at))
-
   pub tables_of : (orders : List (List ℤ)) → AreOrderTables shape.loops moved.loops orders → IsAccepted env tree → AreTablesOf tree moved env orders (map packing_table moved.arrays)
   tables_of orders are accepted = record {
     index_arrays = as_many_tables env tree.decls env.tables accepted.tables;
@@ -83,15 +74,12 @@ module _ (env : Environment) (tree : Tree) (shape : Shape) (moved : Moved) (shap
       slice_get arrays number ≡ Some array → slice_get packings number ≡ Some packing → place < array.length → packed_element packings (array.start + place) ≡ array.start + goes_to packing place) where
     packed_by : (array : ℕ) (of : ArrayShape) (place : ℕ) → slice_get shape.arrays array ≡ Some of → place < of.length → IsPackedBy (renaming_of (packings_of moved.arrays shape.arrays) perms) moved array of place
     packed_by array of place at within =
-        let move = array_move array of at arrays in
-        let number : 0 + array ≡ array = omega arith in
-        let packing : slice_get (packings_of moved.arrays shape.arrays) array ≡ Some (packing_by (get_or moved.arrays array None) of.length) =
-        packing_at moved.arrays 0 array shape.arrays of at ∙ ap (λ (n : ℕ). Some (packing_by (get_or moved.arrays n None) of.length)) number in
+        let move = array_move moved.arrays shape.arrays arrays array of at in
         record {
           there = of_moved (get_or moved.arrays array None) of.length place move within;
           inside = moved_below (get_or moved.arrays array None) of.length place move within;
           goes = places shape.arrays (packings_of moved.arrays shape.arrays) array place of (packing_by (get_or moved.arrays array None) of.length) adjacent
-              (have_packings moved.arrays 0 shape.arrays (have_moves moved.arrays shape.arrays arrays)) at packing within
+              (have_packings moved.arrays shape.arrays arrays) at (packing_at moved.arrays shape.arrays array of at) within
               ∙ ap (λ more. of.start + more) (at_by (get_or moved.arrays array None) of.length place within);
         }
 

@@ -15,7 +15,7 @@ mod Iterations
 mod KeptPlaces
 mod Mirrored
 mod Orders
-mod Packings
+pub mod Packings
 mod SmallIterations
 mod SmallParts
 mod SmallTerms

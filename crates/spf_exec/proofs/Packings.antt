@@ -1,18 +1,17 @@
 -- The packings of all arrays, where each is moved or isn't.
-use Rattle.std.specs.Prelude.{⊤}
-use Rattle.std.proofs.Common.{inl, inr, ◌≡◌, ℕ, zero, suc, ◌+◌, ◌-◌, ◌<◌, ◌≤◌, ◌^◌, Option, None, Some, List, [], ◌∷◌, All, length, get_or, drop, slice_get, refl, sym, ap, ◌∙◌, subst, add-one, drop-cons, arith}
+use Rattle.std.proofs.Common.{inl, inr, ◌≡◌, ℕ, zero, suc, ◌+◌, ◌-◌, ◌<◌, ◌≤◌, ◌^◌, Option, None, Some, List, [], ◌∷◌, All, length, get_or, drop, slice_get, ext_get_or, refl, sym, ap, ◌∙◌, subst, add-one, drop-cons, arith}
 use Rattle.std.proofs.lemmas.List.FromFn.{get_or-range_with_len, length-range_with_len}
-use Rattle.std.proofs.lemmas.List.Elements.{All-cons, All-nil}
-use Rattle.std.proofs.lemmas.List.Sums.{sum_by-cons}
+use Rattle.std.proofs.lemmas.List.Sums.{get_or-le-sum_by, sum_by-cons}
 use Rattle.std.proofs.lemmas.Bool.{cases_lt, le-ltb, lt-ltb}
-use Rattle.std.proofs.lemmas.List.{get_or_past}
+use Rattle.std.proofs.lemmas.List.{get_or-map, get_or_past, length-map}
+use Rattle.std.proofs.lemmas.Option.{get_or_from_slice_get, slice_get_within}
 use Rattle.spf_perm.specs.Perm.{IsPerm, at}
 use Rattle.spf_perm.proofs.Bijections.{identity_is_perm}
 use Rattle.spf_space.specs.Layout.{cells_in}
 use Rattle.spf_space.specs.declared.shape.ArrayShape.{ArrayShape}
 use Rattle.spf_pack.specs.Packing.{HavePackings, packed_element}
 use Rattle.spf_exec.specs.Executor.{IsOfMoved, moved_to}
-use Rattle.spf_exec.specs.Moves.{AreMovesOf, IsMove, IsMoveOf, lengths, packing_by, packings_from}
+use Rattle.spf_exec.specs.Moves.{AreMovesOf, IsMove, IsMoveOf, lengths, packing_by, packings_from, packings_of}
 
 pub length_by : (of : Option (List ℕ)) (count : ℕ) → IsMoveOf count of → length (packing_by of count) ≡ count
 length_by None count is = length-range_with_len 0 count
@@ -76,45 +75,71 @@ pub of_moved : (of : Option (List ℕ)) (count place : ℕ) → IsMoveOf count o
 of_moved None count place is inside = tt
 of_moved (Some moves) count place is inside = omega (arith, is.0, inside)
 
--- each array, of which the first has this number, has its move
-abbrev HaveMoves : List (Option (List ℕ)) → ℕ → List ArrayShape → Type 0
-HaveMoves moves number [] = ⊤
-HaveMoves moves number (array ∷ arrays) = IsMoveOf array.length (get_or moves number None) × HaveMoves moves (number + 1) arrays
+element_at : {A : Type 0} (xs : List A) (n : ℕ) → n < length xs → (x : A) × (slice_get xs n ≡ Some x)
+element_at [] n inside = absurd (omega arith)
+element_at (x ∷ xs) zero inside = (x, refl)
+element_at (x ∷ xs) (suc n) inside = element_at xs n (omega (arith, inside))
 
-moves_behind : (moves : List (Option (List ℕ))) (number : ℕ) (arrays : List ArrayShape) → ((n : ℕ) → n < length (lengths arrays) → IsMoveOf (get_or (lengths arrays) n 0) (get_or moves (number + n) None)) → HaveMoves moves number arrays
-moves_behind moves number [] each = tt
-moves_behind moves number (array ∷ arrays) each = (
-  (let here : number + 0 ≡ number = omega arith in subst (λ (of : ℕ). IsMoveOf array.length (get_or moves of None)) here (each 0 (omega arith))),
-  moves_behind moves (number + 1) arrays
-      (λ n inside. let there : number + suc n ≡ number + 1 + n = omega arith in subst (λ (of : ℕ). IsMoveOf (get_or (lengths arrays) n 0) (get_or moves of None)) there (each (suc n) (omega (arith, inside)))),
-)
+as_many_from : (moves : List (Option (List ℕ))) (number : ℕ) (arrays : List ArrayShape) → length (packings_from moves number arrays) ≡ length arrays
+as_many_from moves number [] = refl
+as_many_from moves number (array ∷ arrays) = ap suc (as_many_from moves (number + 1) arrays)
 
-pub have_moves : (moves : List (Option (List ℕ))) (arrays : List ArrayShape) → AreMovesOf (lengths arrays) moves → HaveMoves moves 0 arrays
-have_moves moves arrays are =
-    moves_behind moves 0 arrays (λ n inside. let there : n ≡ 0 + n = omega arith in subst (λ (of : ℕ). IsMoveOf (get_or (lengths arrays) n 0) (get_or moves of None)) there (are.each n inside))
+packing_from : (moves : List (Option (List ℕ))) (number n : ℕ) (arrays : List ArrayShape) (array : ArrayShape) → slice_get arrays n ≡ Some array →
+    slice_get (packings_from moves number arrays) n ≡ Some (packing_by (get_or moves (number + n) None) array.length)
+packing_from moves number n [] array at = cc
+packing_from moves number zero (first ∷ arrays) array at =
+    let same : first ≡ array = cc in
+    let here : number ≡ number + 0 = omega arith in
+    λ i. Some (packing_by (get_or moves (here i) None) (length_of (same i)))
+packing_from moves number (suc n) (first ∷ arrays) array at =
+    let there : number + 1 + n ≡ number + suc n = omega arith in
+    packing_from moves (number + 1) n arrays array at ∙ ap (λ (of : ℕ). Some (packing_by (get_or moves of None) array.length)) there
 
-module _ (moves : List (Option (List ℕ))) where
-  pub have_packings : (number : ℕ) (arrays : List ArrayShape) → HaveMoves moves number arrays → HavePackings arrays (packings_from moves number arrays)
-  have_packings number [] have = refl
-  have_packings number (array ∷ arrays) have = λ i. length_by (get_or moves number None) array.length have.0 i ∷ have_packings (number + 1) arrays have.1 i
+-- packings that are as long as the arrays are those of arrays
+pub have_lengths : (arrays : List ArrayShape) (packs : List (List ℕ)) → length packs ≡ length arrays →
+    ((n : ℕ) (array : ArrayShape) → slice_get arrays n ≡ Some array → length (get_or packs n []) ≡ array.length) → HavePackings arrays packs
+have_lengths [] [] same each = refl
+have_lengths [] (pack ∷ packs) same each = absurd (omega (arith, same))
+have_lengths (array ∷ arrays) [] same each = absurd (omega (arith, same))
+have_lengths (array ∷ arrays) (pack ∷ packs) same each =
+    λ i. each 0 array refl i ∷ have_lengths arrays packs (omega (arith, same)) (λ n later there. each (suc n) later there) i
 
-  pub packing_at : (number n : ℕ) (arrays : List ArrayShape) (array : ArrayShape) → slice_get arrays n ≡ Some array →
-      slice_get (packings_from moves number arrays) n ≡ Some (packing_by (get_or moves (number + n) None) array.length)
-  packing_at number n [] array at = cc
-  packing_at number zero (first ∷ arrays) array at =
-      let same : first ≡ array = cc in
-      let here : number ≡ number + 0 = omega arith in
-      λ i. Some (packing_by (get_or moves (here i) None) (length_of (same i)))
-  packing_at number (suc n) (first ∷ arrays) array at =
-      let there : number + 1 + n ≡ number + suc n = omega arith in
-      packing_at (number + 1) n arrays array at ∙ ap (λ (of : ℕ). Some (packing_by (get_or moves of None) array.length)) there
+module _ (moves : List (Option (List ℕ))) (arrays : List ArrayShape) where
+  pub packing_at : (n : ℕ) (array : ArrayShape) → slice_get arrays n ≡ Some array → slice_get (packings_of moves arrays) n ≡ Some (packing_by (get_or moves n None) array.length)
+  packing_at n array at =
+      let number : 0 + n ≡ n = omega arith in
+      packing_from moves 0 n arrays array at ∙ ap (λ (of : ℕ). Some (packing_by (get_or moves of None) array.length)) number
 
-  pub all_perms : (number : ℕ) (arrays : List ArrayShape) → cells_in arrays < 2 ^ 32 → HaveMoves moves number arrays → All IsPerm (packings_from moves number arrays)
-  all_perms number [] few have = All-nil IsPerm
-  all_perms number (array ∷ arrays) few have =
-      let total = sum_by-cons length_of array arrays in
-      All-cons IsPerm (packing_by (get_or moves number None) array.length) (packings_from moves (number + 1) arrays)
-      (perm_by (get_or moves number None) array.length (omega (arith, few, total)) have.0) (all_perms (number + 1) arrays (omega (arith, few, total)) have.1)
+  packing_is : (n : ℕ) (array : ArrayShape) (d : List ℕ) → slice_get arrays n ≡ Some array → get_or (packings_of moves arrays) n d ≡ packing_by (get_or moves n None) array.length
+  packing_is n array d at = get_or_from_slice_get (packings_of moves arrays) n (packing_by (get_or moves n None) array.length) d (packing_at n array at)
+
+  -- these are the packings, where each is that of its array
+  pub packings_are : (packs : List (List ℕ)) → length packs ≡ length arrays →
+      ((n : ℕ) (array : ArrayShape) → slice_get arrays n ≡ Some array → packing_by (get_or moves n None) array.length ≡ get_or packs n []) → packings_of moves arrays ≡ packs
+  packings_are packs same each =
+      let count = as_many_from moves 0 arrays in
+      ext_get_or [] (packings_of moves arrays) packs (count ∙ sym same)
+      (λ n inside. let of = element_at arrays n (omega (arith, inside, count)) in packing_is n of.0 [] of.1 ∙ each n of.0 of.1)
+
+  module _ (are : AreMovesOf (lengths arrays) moves) where
+    pub array_move : (n : ℕ) (array : ArrayShape) → slice_get arrays n ≡ Some array → IsMoveOf array.length (get_or moves n None)
+    array_move n array at =
+        let there = slice_get_within arrays n array at in
+        move_at (lengths arrays) moves n array.length are (omega (arith, there, length-map arrays length_of))
+        (get_or-map length_of arrays n array 0 there ∙ ap length_of (get_or_from_slice_get arrays n array array at))
+
+    pub have_packings : HavePackings arrays (packings_of moves arrays)
+    have_packings =
+        have_lengths arrays (packings_of moves arrays) (as_many_from moves 0 arrays)
+        (λ n array at. ap (λ (packing : List ℕ). length packing) (packing_is n array [] at) ∙ length_by (get_or moves n None) array.length (array_move n array at))
+
+    pub all_perms : cells_in arrays < 2 ^ 32 → All IsPerm (packings_of moves arrays)
+    all_perms few n d inside =
+        let of = element_at arrays n (omega (arith, inside, as_many_from moves 0 arrays)) in
+        let array : ArrayShape = of.0 in
+        let total = get_or-le-sum_by length_of arrays n array (slice_get_within arrays n array of.1) in
+        let small : array.length < 2 ^ 32 = omega (arith, few, total, ap length_of (get_or_from_slice_get arrays n array array of.1)) in
+        subst IsPerm (sym (packing_is n array d of.1)) (perm_by (get_or moves n None) array.length small (array_move n array of.1))
 
 -- no loop or array has another move
 pub any_move : (counts : List ℕ) (moves : List (Option (List ℕ))) → AreMovesOf counts moves → (n : ℕ) → IsMove (get_or moves n None)

@@ -1,8 +1,7 @@
-use Rattle.std.proofs.Common.{◌≤◌, None, get_or, sym, ap, ◌∙◌, arith}
-use Rattle.std.proofs.lemmas.List.{get_or-map, length-map}
+use Rattle.std.proofs.Common.{◌≤◌, length, refl, arith}
+use Rattle.std.proofs.lemmas.Option.{slice_get_read}
 use Rattle.spf_space.specs.declared.shape.ArrayShape.{ArrayShape}
-use Rattle.spf_exec.specs.Moves.{IsMoveOf, lengths}
-use Rattle.spf_exec.proofs.Packings.{behind_array, cells_from, in_array, length_of, move_at}
+use Rattle.spf_exec.proofs.Packings.{array_move, behind_array, cells_from, in_array}
 use Rattle.spf_exec.proofs.moves.packed_element.Goals as goal
 
 pub returns-then-place-array : goal.returns-then-place-array
@@ -11,8 +10,7 @@ returns-then-place-array c =
     let moves = c.args.moves.now in
     let n = c.loop-number.number in
     let array : ArrayShape = c.index-arrays-number.result in
-    let move : IsMoveOf array.length (get_or moves n None) =
-    move_at (lengths arrays) moves n array.length c.requires.moves (omega (arith, length-map arrays length_of, c.loop-number-test.true)) (get_or-map length_of arrays n array 0 c.loop-number-test.true ∙ ap length_of (sym c.index-arrays-number.is)) in
+    let move = array_move moves arrays c.requires.moves n array (slice_get_read arrays (length arrays) n array refl c.loop-number-test.true c.index-arrays-number.is) in
     let here = in_array moves arrays n array c.loop-number-test.true c.index-arrays-number.is move c.loop-number.place c.if-place-array.true in
     omega (arith, c.loop-number.invariant.rest, here, c.moved_to.ensures)
 
@@ -23,8 +21,7 @@ loop-number-preserved c =
     let n = c.loop-number.number in
     let array : ArrayShape = c.index-arrays-number.result in
     let behind : array.length ≤ c.loop-number.place = c.if-place-array.false in
-    let move : IsMoveOf array.length (get_or moves n None) =
-    move_at (lengths arrays) moves n array.length c.requires.moves (omega (arith, length-map arrays length_of, c.loop-number-test.true)) (get_or-map length_of arrays n array 0 c.loop-number-test.true ∙ ap length_of (sym c.index-arrays-number.is)) in
+    let move = array_move moves arrays c.requires.moves n array (slice_get_read arrays (length arrays) n array refl c.loop-number-test.true c.index-arrays-number.is) in
     record {
       within = omega (arith, c.loop-number.invariant.within);
       cells = omega (arith, behind, c.loop-number.invariant.within, c.loop-number.invariant.cells, cells_from moves arrays n array c.loop-number-test.true c.index-arrays-number.is);

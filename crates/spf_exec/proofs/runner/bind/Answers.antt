@@ -6,14 +6,14 @@ use Rattle.spf_space.specs.declared.shape.ArrayShape.{ArrayShape}
 use Rattle.spf_pack.specs.Packing.{renaming_of}
 use Rattle.spf_exec.specs.Moves.{packing_table, packings_of}
 use Rattle.spf_exec.proofs.Binding.{bound_of, tables_of}
-use Rattle.spf_exec.proofs.Packings.{all_perms, have_moves}
+use Rattle.spf_exec.proofs.Packings.{all_perms}
 use Rattle.spf_exec.proofs.runner.bind.Goals as goal
 
 pub invariant_of-result : goal.invariant_of-result
 invariant_of-result c =
     let arrays = c.args.shape.now.arrays in
     let moves = c.args.moved.arrays in
-    (all_perms moves 0 arrays c.args.shape.now.layout.cells (have_moves moves arrays c.requires.arrays), tt)
+    (all_perms moves arrays c.requires.arrays c.args.shape.now.layout.cells, tt)
 
 pub invariant_of-result-2 : goal.invariant_of-result-2
 invariant_of-result-2 c =
@@ -37,7 +37,7 @@ pub returns-clause-effect : goal.returns-clause-effect
 returns-clause-effect c orders packings tables u inside values e =
     let arrays = c.args.shape.now.arrays in
     let moves = c.args.moved.arrays in
-    let perms : All IsPerm (packings_of moves arrays) = all_perms moves 0 arrays c.args.shape.now.layout.cells (have_moves moves arrays c.requires.arrays) in
+    let perms : All IsPerm (packings_of moves arrays) = all_perms moves arrays c.requires.arrays c.args.shape.now.layout.cells in
     let bound = bound_of c.args.env.now c.args.kernel.now c.args.shape.now c.args.moved c.requires.sourced.shape_is c.requires.loops c.requires.arrays c.args.shape.now.layout.adjacent perms c.packing_is_renaming.ensures.places
     orders packings tables c.requires.sourced.accepted (subst IsNamed c.tree-tree.ensures.tree c.tree-tree.ensures.named) (subst IsBoundedTree c.tree-tree.ensures.tree c.tree-tree.ensures.bounded) in
     sym (c.executor_runs_renamed_units.ensures.effect c.args.env.now c.args.kernel.now c.args.moved orders packings (renaming_of (packings_of moves arrays) perms) c.args.shape.now.steps u bound c.requires.sourced.range inside values e)
