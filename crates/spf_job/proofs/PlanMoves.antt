@@ -2,6 +2,7 @@
 use Rattle.std.proofs.Common.{◌≡◌, ℕ, zero, suc, ◌+◌, ◌<◌, Bool, true, false, Option, None, Some, List, [], ◌∷◌, ◌++◌, length, map, slice_get, slice_index_or, refl, sym, ap, ◌∙◌, subst, arith}
 use Rattle.std.specs.List.{range_with_len}
 use Rattle.std.proofs.lemmas.List.{length-map}
+use Rattle.std.proofs.lemmas.Option.{slice_get_within}
 use Rattle.std.proofs.lemmas.List.FromFn.{get_or-map-range_with_len, length-map-range_with_len, map-range_with_len_more}
 use Rattle.spf_perm.specs.Perm.{IsPerm}
 use Rattle.spf_space.specs.declared.shape.ArrayShape.{ArrayShape}
@@ -10,7 +11,8 @@ use Rattle.spf_space.specs.declared.shape.Shape.{Shape}
 use Rattle.spf_touch.specs.declared.touch.Touch.{Touch}
 use Rattle.spf_pack.specs.Packing.{HavePackings}
 use Rattle.spf_plan.specs.Planned.{ArePacksOf, IsInPlace, IsPlanOf, Planned}
-use Rattle.spf_exec.specs.Moves.{AreMovesOf, IsMoveOf, extents, lengths, packing_by, packings_from, packings_of}
+use Rattle.spf_exec.specs.Moves.{AreMovesOf, IsMoveOf, extents, lengths, packing_by, packings_of}
+use Rattle.spf_exec.proofs.Packings.{have_lengths, packings_are}
 use Rattle.spf_job.specs.PlanMoves.{move_by, moves_of}
 
 -- ---- one permutation
@@ -52,38 +54,10 @@ sizes_at size (x ∷ xs) of each (suc n) inside = sizes_at size xs (λ k. of (su
 
 -- ---- packings
 
-packings_are : (moves : List (Option (List ℕ))) (number : ℕ) (arrays : List ArrayShape) (packs : List (List ℕ)) → length packs ≡ length arrays
-    → ((n : ℕ) (array : ArrayShape) → slice_get arrays n ≡ Some array → packing_by (slice_index_or moves (number + n) None) array.length ≡ slice_index_or packs n [])
-    → packings_from moves number arrays ≡ packs
-packings_are moves number [] [] same each = refl
-packings_are moves number [] (pack ∷ packs) same each = absurd (omega (arith, same))
-packings_are moves number (array ∷ arrays) [] same each = absurd (omega (arith, same))
-packings_are moves number (array ∷ arrays) (pack ∷ packs) same each =
-    let here : number + 0 ≡ number = omega arith in
-    let first : packing_by (slice_index_or moves number None) array.length ≡ pack =
-    subst (λ (at : ℕ). packing_by (slice_index_or moves at None) array.length ≡ pack) here (each 0 array refl) in
-    let rest = packings_are moves (number + 1) arrays packs (omega (arith, same)) (λ n later there.
-    let at : number + suc n ≡ number + 1 + n = omega arith in
-    subst (λ (k : ℕ). packing_by (slice_index_or moves k None) later.length ≡ slice_index_or packs n []) at (each (suc n) later there)) in
-    λ i. first i ∷ rest i
-
-same_lengths : (arrays : List ArrayShape) (packs : List (List ℕ)) → length packs ≡ length arrays
-    → ((n : ℕ) (array : ArrayShape) → slice_get arrays n ≡ Some array → length (slice_index_or packs n []) ≡ array.length) → HavePackings arrays packs
-same_lengths [] [] same each = refl
-same_lengths [] (pack ∷ packs) same each = absurd (omega (arith, same))
-same_lengths (array ∷ arrays) [] same each = absurd (omega (arith, same))
-same_lengths (array ∷ arrays) (pack ∷ packs) same each =
-    λ i. each 0 array refl i ∷ same_lengths arrays packs (omega (arith, same)) (λ n later there. each (suc n) later there) i
-
 pub have_packings : (arrays : List ArrayShape) (packs : List (List ℕ)) → ArePacksOf arrays packs → HavePackings arrays packs
-have_packings arrays packs are = same_lengths arrays packs are.each_array are.lengths
+have_packings arrays packs are = have_lengths arrays packs are.each_array are.lengths
 
 -- ---- a plan
-
-inside_of : {A : Type 0} (xs : List A) (n : ℕ) (x : A) → slice_get xs n ≡ Some x → n < length xs
-inside_of [] n x there = absurd cc
-inside_of (y ∷ xs) zero x there = omega arith
-inside_of (y ∷ xs) (suc n) x there = let rest = inside_of xs n x there in omega (arith, rest)
 
 module _ (touches : List (List Touch)) (shape : Shape) (plan : Planned) (is : IsPlanOf touches shape plan) where
   pub loops_move : AreMovesOf (extents shape.loops) (moves_of plan.moved_loops plan.orders)
@@ -103,11 +77,7 @@ module _ (touches : List (List Touch)) (shape : Shape) (plan : Planned) (is : Is
       (λ n inside. is.packed.perms n (omega (arith, inside, long, is.packed.each_array)))
 
   pub packs_are : packings_of (moves_of plan.moved_arrays plan.packs) shape.arrays ≡ plan.packs
-  packs_are = packings_are (moves_of plan.moved_arrays plan.packs) 0 shape.arrays plan.packs is.packed.each_array (λ n array there.
-      let mark = slice_index_or plan.moved_arrays n true in
-      let perm = slice_index_or plan.packs n [] in
-      let inside : n < length plan.moved_arrays = omega (arith, inside_of shape.arrays n array there, is.each_array) in
-      let here : 0 + n ≡ n = omega arith in
-      ap (λ (k : ℕ). packing_by (slice_index_or (moves_of plan.moved_arrays plan.packs) k None) array.length) here
-      ∙ ap (λ (of : Option (List ℕ)). packing_by of array.length) (move_at plan.moved_arrays plan.packs n inside)
-      ∙ packing_by_mark mark perm array.length (is.packed.lengths n array there) (is.arrays_in_place n))
+  packs_are = packings_are (moves_of plan.moved_arrays plan.packs) shape.arrays plan.packs is.packed.each_array (λ n array there.
+      let inside : n < length plan.moved_arrays = omega (arith, slice_get_within shape.arrays n array there, is.each_array) in
+      ap (λ (of : Option (List ℕ)). packing_by of array.length) (move_at plan.moved_arrays plan.packs n inside)
+      ∙ packing_by_mark (slice_index_or plan.moved_arrays n true) (slice_index_or plan.packs n []) array.length (is.packed.lengths n array there) (is.arrays_in_place n))
