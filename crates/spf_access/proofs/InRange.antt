@@ -1,11 +1,11 @@
 -- What it means for the events that a walk has no fault.
-use Rattle.std.proofs.Common.{◌≡◌, ℕ, zero, suc, ◌+◌, ◌*◌, ◌<◌, ℤ, pos, negsuc, Bool, true, false, List, [], ◌∷◌, Option, Some, None, All, inl, inr, refl, sym, subst, map, arith, eqb, cond}
-use Rattle.std.proofs.lemmas.Bool.{cases_Bool, ltb-true, ne_eqb}
+use Rattle.std.proofs.Common.{◌≡◌, ℕ, ◌+◌, ◌*◌, ◌<◌, ℤ, pos, negsuc, List, [], ◌∷◌, Option, Some, None, All, inl, inr, refl, sym, subst, map, arith, eqb}
+use Rattle.std.proofs.lemmas.Bool.{cases_Bool, ne_eqb}
+use Rattle.std.proofs.lemmas.Int.{ints}
 use Rattle.std.proofs.lemmas.List.Elements.{All-from_recursion}
-use Rattle.std.proofs.lemmas.List.Sums.{sum_by-cons}
 use Rattle.std.specs.List.{AllByRecursion, flat_map}
 use Rattle.std.specs.Option.{option_or}
-use Rattle.std.specs.Prelude.{◌&&◌, nat_lt, int_le, int_lt, slice_index_or}
+use Rattle.std.specs.Prelude.{◌&&◌, nat_lt, slice_index_or}
 use Rattle.spf_term.specs.Environment.{Environment}
 use Rattle.spf_touch.specs.Ops.{noted}
 use Rattle.spf_touch.specs.declared.class.Class.{Class}
@@ -14,7 +14,6 @@ use Rattle.spf_kernel.specs.declared.tree.DataDecl.{DataDecl}
 use Rattle.spf_kernel.specs.declared.tree.Tree.{Tree}
 use Rattle.spf_space.specs.Layout.{AreAdjacent, cells_in}
 use Rattle.spf_space.specs.Units.{loops_units}
-use Rattle.spf_space.specs.declared.shape.ArrayShape.{ArrayShape}
 use Rattle.spf_space.specs.declared.unit.Unit.{Unit}
 use Rattle.spf_store.specs.Accesses.{accesses_of, noted_all, touches_in, touches_of}
 use Rattle.spf_store.specs.Effect.{element_at}
@@ -22,6 +21,7 @@ use Rattle.spf_store.specs.Event.{Event, Turn, Bound, Read, Access, Store}
 use Rattle.spf_store.specs.FirstFault.{AreInRange, IsInRange, counted, counted_all, data_length, event_fault, events_fault, first_fault, is_visit, outside, range_fault, units_fault, unless_between, visit_limit, walked}
 use Rattle.spf_store.specs.Shaped.{array_shapes, data_in, data_of, loops_of, size, starts_of}
 use Rattle.spf_store.specs.Source.{unit_trace}
+use Rattle.spf_store.proofs.InRange.{between, place_is_cell}
 
 both_none : {A : Type 0} (first second : Option A) → option_or first second ≡ None → (first ≡ None) × (second ≡ None)
 both_none None second h = (refl, h)
@@ -31,22 +31,6 @@ both_none (Some x) second h = cc
 are_adjacent : (env : Environment) (from : ℕ) (arrays : List DataDecl) → AreAdjacent from (array_shapes env from arrays)
 are_adjacent env from [] = tt
 are_adjacent env from (array ∷ arrays) = (refl, are_adjacent env (from + size env array.size) arrays)
-
-some_none : {A : Type 0} (x : A) → Some x ≡ None → ⊥
-some_none x h = cc
-
-both_true : {A : Type 0} (low high : Bool) (x : A) → cond (low && high) None (Some x) ≡ None → (low ≡ true) × (high ≡ true)
-both_true true true x h = (refl, refl)
-both_true true false x h = absurd (some_none x h)
-both_true false high x h = absurd (some_none x h)
-
--- a place of an array is a cell
-place_is_cell : (from : ℕ) (arrays : List ArrayShape) (array place : ℕ) → AreAdjacent from arrays →
-    place < slice_index_or (map (λ (shape : ArrayShape). shape.length) arrays) array 0 → slice_index_or (map (λ (shape : ArrayShape). shape.start) arrays) array 0 + place < from + cells_in arrays
-place_is_cell from [] array place adjacent inside = absurd (omega (arith, inside))
-place_is_cell from (shape ∷ arrays) zero place adjacent inside = omega (arith, adjacent.0, inside, sum_by-cons (λ (shape : ArrayShape). shape.length) shape arrays)
-place_is_cell from (shape ∷ arrays) (suc array) place adjacent inside =
-    omega (arith, place_is_cell (from + shape.length) arrays array place adjacent.1 inside, sum_by-cons (λ (shape : ArrayShape). shape.length) shape arrays)
 
 module _ (env : Environment) (tree : Tree) (steps : ℕ) where
   range_none : (unit : Unit) (o : Option (ℕ × ℤ)) → range_fault env tree steps unit o ≡ None → o ≡ None
@@ -99,11 +83,8 @@ module _ (env : Environment) (tree : Tree) (steps : ℕ) where
   ]
 
   place_inside : (n site : ℕ) (place : ℤ) → unless_between (pos 0) (pos n) site place ≡ None → (p : ℕ) × (place ≡ pos p) × (p < n)
-  place_inside n site (pos p) h = (p, refl, ltb-true p n (both_true (int_le (pos 0) (pos p)) (int_lt (pos p) (pos n)) (site, pos p) h).1)
-  place_inside n site (negsuc p) h = absurd (some_none (site, negsuc p) h)
-
-  element_inside : (array : ℕ) (place : ℕ) → place < data_length env (data_of env tree) array → slice_index_or (starts_of env tree) array 0 + place < cells
-  element_inside array place low = omega (arith, place_is_cell 0 (data_of env tree) array place (are_adjacent env 0 (flat_map data_in tree.decls)) low)
+  place_inside n site (pos p) h = (p, refl, omega (arith, ints, (between (pos 0) (pos n) site (pos p) h).1))
+  place_inside n site (negsuc p) h = absurd (omega (arith, ints, (between (pos 0) (pos n) site (negsuc p) h).0))
 
   all_cells : (touches : List Touch) (events : List Event) → AllByRecursion IsCell touches → AllByRecursion (λ event. outside env tree event ≡ None) events →
       AllByRecursion IsCell (noted_all touches (accesses_of (starts_of env tree) events))
@@ -115,7 +96,7 @@ module _ (env : Environment) (tree : Tree) (steps : ℕ) where
   all_cells touches (Access site class array place ∷ events) h range =
       let at = place_inside (data_length env (data_of env tree) array) site place range.0 in
       let inside : element_at (slice_index_or (starts_of env tree) array 0) place < cells =
-      subst (λ (z : ℤ). element_at (slice_index_or (starts_of env tree) array 0) z < cells) (sym at.1) (element_inside array at.0 at.2) in
+      subst (λ (z : ℤ). element_at (slice_index_or (starts_of env tree) array 0) z < cells) (sym at.1) (place_is_cell env tree (are_adjacent env 0 (flat_map data_in tree.decls)) array at.0 at.2) in
       all_cells (noted touches (element_at (slice_index_or (starts_of env tree) array 0) place) class) events (noted_cells touches _ class inside h) range.1
 
   lists_cells : (units : List Unit) → AllByRecursion WalkedInRange units → AllByRecursion (All IsCell) (map (λ unit. touches_in (starts_of env tree) (walked env tree steps unit)) units)

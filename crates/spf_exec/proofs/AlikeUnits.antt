@@ -12,7 +12,7 @@ use Rattle.spf_kernel.specs.declared.tree.Loop.{Loop}
 use Rattle.spf_kernel.specs.declared.tree.Tree.{Tree}
 use Rattle.spf_space.specs.declared.unit.Unit.{Unit}
 use Rattle.spf_store.specs.Accesses.{accesses_of}
-use Rattle.spf_store.specs.Event.{Event}
+use Rattle.spf_store.specs.Event.{Event, Turn, Bound, Read, Access, Store}
 use Rattle.spf_store.specs.FirstFault.{IsInRange, outside}
 use Rattle.spf_store.specs.Needs.{Allows, OwnsAll}
 use Rattle.spf_store.specs.Shaped.{outer_value, starts_of}
@@ -22,9 +22,18 @@ use Rattle.spf_exec.specs.Executor.{executor_env, new_position}
 use Rattle.spf_exec.specs.Meaning.{AreBound, IsUnit, executor_trace, items_at, position_trace}
 use Rattle.spf_exec.specs.Rewritten.{executor_items}
 use Rattle.spf_exec.specs.declared.program.Moved.{Moved}
-use Rattle.spf_exec.proofs.Alike.{Alike}
+use Rattle.spf_exec.proofs.Alike.{Alike, May}
 use Rattle.spf_exec.proofs.Following.{iteration_alike}
-use Rattle.spf_exec.proofs.InRange.{allowed}
+
+-- events that may come on cells that own all, may come on cells that own what they access
+pub allowed : (starts : List ℕ) (owns : ℕ → Bool) (events : List Event) → AllByRecursion (May starts) events →
+    AllByRecursion (λ access. owns access.0 ≡ true) (accesses_of starts events) → AllByRecursion (Allows starts owns) events
+allowed starts owns [] may own = tt
+allowed starts owns (Turn ∷ events) may own = (tt, allowed starts owns events may.1 own)
+allowed starts owns (Bound site value ∷ events) may own = (may.0, allowed starts owns events may.1 own)
+allowed starts owns (Read entry ∷ events) may own = (tt, allowed starts owns events may.1 own)
+allowed starts owns (Access site class array place ∷ events) may own = (record { placed = may.0.placed; own = own.0 }, allowed starts owns events may.1 own.1)
+allowed starts owns (Store assign variables ∷ events) may own = (tt, allowed starts owns events may.1 own)
 
 module _ (env : Environment) (tree : Tree) (moved : Moved) (orders packings : List (List ℤ)) (unit : Unit) (loop : Loop) (at : slice_get tree.loops unit.loop_no ≡ Some loop) where
   pub mine_is : executor_trace env tree moved orders packings unit

@@ -11,9 +11,10 @@ use Rattle.spf_term.specs.Substitution.{is_variable, scaled, substituted, substi
 use Rattle.spf_term.specs.Value.{applications, atom_applications, sum_applications}
 use Rattle.spf_term.specs.declared.term.Atom.{Atom, Var, Param, App}
 use Rattle.spf_term.specs.declared.term.Mono.{Mono}
-use Rattle.spf_term.specs.declared.term.Term.{Term, Term', out-Term, roll-Term, out-roll-Term, Row_of-Mono, end_of-Mono, more_of-Mono, items-the_row-Mono, items_shown-the_row-Mono-0}
+use Rattle.spf_term.specs.declared.term.Term.{Term, Term', out-Term, roll-Term, out-roll-Term, Row_of-Mono, end_of-Mono, more_of-Mono}
 use Rattle.spf_exec.specs.Composed.{variable}
 use Rattle.spf_term.proofs.Monos.{applications_are, list_applications}
+use Rattle.spf_term.proofs.Numbers.{list_monomials, monomials_are}
 
 mutual
   pub few_applications : (term : Term) → applications term ≤ monomials term
@@ -31,18 +32,6 @@ mutual
 pub rolled_applications : (monos : List Mono) (constant : ℤ) → applications (roll-Term (record { monos = monos; constant = constant })) ≡ list_applications monos
 rolled_applications monos constant =
     applications_are (roll-Term (record { monos = monos; constant = constant })) ∙ ap (λ term. list_applications term.monos) (out-roll-Term (record { monos = monos; constant = constant }))
-
-abbrev list_monomials : List Mono → ℕ
-list_monomials [] = 0
-list_monomials (mono ∷ monos) = 1 + atom_monomials mono.atom + list_monomials monos
-
-row_monomials : {n : _} (row : Row_of-Mono n) → sum_monomials row ≡ list_monomials (items-the_row-Mono n row)
-row_monomials end_of-Mono = refl
-row_monomials (more_of-Mono coef atom others) = ap (λ rest. 1 + atom_monomials atom + rest) (row_monomials others)
-
-monomials_are : (term : Term) → monomials term ≡ list_monomials (out-Term term).monos
-unfolding out-Term denote.Hole.Carrier.out
-monomials_are (Term' shape monos constant) = row_monomials monos ∙ ap list_monomials (sym (items_shown-the_row-Mono-0 shape monos))
 
 pub variable_alone : (n : ℕ) → monomials (variable n) ≡ 1
 variable_alone n =

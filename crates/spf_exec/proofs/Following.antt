@@ -24,6 +24,7 @@ use Rattle.spf_store.specs.FirstFault.{data_length, outside}
 use Rattle.spf_store.specs.Shaped.{data_of, outer_value, starts_of}
 use Rattle.spf_store.specs.Trace.{items_trace}
 use Rattle.spf_store.proofs.Adjacent.{end_within}
+use Rattle.spf_store.proofs.InRange.{between, bound_small, found}
 use Rattle.spf_store.proofs.Layouts.{laid_out}
 use Rattle.spf_exec.specs.Composed.{composed_in, iteration_in, order_of, packed_in, packing_of, variable}
 use Rattle.spf_exec.specs.Executor.{HasPlace, IsOfMoved, IsOrderTable, IsPackingTable, executor_env, moved_to, packed_place}
@@ -32,7 +33,6 @@ use Rattle.spf_exec.specs.Rewritten.{composing, executor_items}
 use Rattle.spf_exec.specs.declared.program.Moved.{Moved}
 use Rattle.spf_exec.proofs.Alike.{Alike}
 use Rattle.spf_exec.proofs.Behind.{order_table, packing_table, term_same}
-use Rattle.spf_exec.proofs.InRange.{between, bound_small, found}
 use Rattle.spf_exec.proofs.Iterations.{atom_alone, iteration_value, lower_named, outer_replaced, packed_value, there_inside}
 use Rattle.spf_exec.proofs.Mirrored.{Follows, Goes, items_mirror}
 

@@ -1,8 +1,8 @@
 -- What the terms of iterations, composed terms and packed terms are.
-use Rattle.std.proofs.Common.{◌≡◌, inl, inr, ℕ, zero, suc, ◌<◌, ℤ, pos, ◌+ℤ◌, ◌*ℤ◌, Option, None, Some, List, [], ◌∷◌, false, length, map, nat_eq, get_or, slice_get, refl, ap, sym, ◌∙◌, subst, arith}
+use Rattle.std.proofs.Common.{◌≡◌, ℕ, zero, suc, ◌<◌, ℤ, pos, ◌+ℤ◌, ◌*ℤ◌, Option, None, Some, List, [], ◌∷◌, false, length, map, nat_eq, get_or, slice_get, refl, ap, sym, ◌∙◌, subst, arith}
 use Rattle.std.proofs.Math.IntN.{+ℤ_idr, suc_ℤ-*ℤ, zero-*ℤ}
 use Rattle.std.proofs.lemmas.Int.{ints}
-use Rattle.std.proofs.lemmas.Option.{get_or_from_slice_get, slice_get_cases}
+use Rattle.std.proofs.lemmas.Option.{get_or_from_slice_get, slice_get_within}
 use Rattle.std.specs.Option.{is_some}
 use Rattle.spf_perm.specs.Perm.{at}
 use Rattle.spf_term.specs.Environment.{Environment}
@@ -67,17 +67,11 @@ outer_replaced old new inner = record { new = refl; others = others } where
 
 -- ---- a loop of a tree
 
-inside_of : {X : Type 0} (xs : List X) (n : ℕ) (x : X) → slice_get xs n ≡ Some x → n < length xs
-inside_of xs n x at = elim (slice_get_cases xs n).1 [
-  | inl here ↦ here.1
-  | inr past ↦ let clash : None ≡ Some x = sym past.1 ∙ at in cc
-]
-
 pub there_inside : {X Y : Type 0} (xs : List X) (ys : List Y) (n : ℕ) (x : X) → slice_get xs n ≡ Some x → length ys ≡ length xs → n < length ys
-there_inside xs ys n x at same = let inside = inside_of xs n x at in omega (arith, inside, same)
+there_inside xs ys n x at same = let inside = slice_get_within xs n x at in omega (arith, inside, same)
 
 pub lower_named : (tree : Tree) (loop_no : ℕ) (loop : Loop) → IsNamed tree → slice_get tree.loops loop_no ≡ Some loop → IsNamedTerm (counts_in tree.decls) 0 loop.low
 unfolding IsNamed
 lower_named tree loop_no loop named at =
-    let keeps : KeepsLoop (named_in (counts_in tree.decls)) (get_or tree.loops loop_no loop) = named.loops loop_no loop (inside_of tree.loops loop_no loop at) in
+    let keeps : KeepsLoop (named_in (counts_in tree.decls)) (get_or tree.loops loop_no loop) = named.loops loop_no loop (slice_get_within tree.loops loop_no loop at) in
     subst (λ (of : Loop). IsNamedTerm (counts_in tree.decls) 0 of.low) (get_or_from_slice_get tree.loops loop_no loop loop at) keeps.low

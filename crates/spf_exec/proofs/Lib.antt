@@ -10,7 +10,6 @@ mod Bodies
 mod Composing
 mod Counts
 mod Following
-mod InRange
 mod Iterations
 mod KeptPlaces
 mod Mirrored
@@ -19,3 +18,4 @@ pub mod Packings
 mod SmallIterations
 mod SmallParts
 mod SmallTerms
+pub mod Threads

@@ -1,4 +1,5 @@
 pub mod Adjacent
+pub mod InRange
 pub mod OnTheWay
 pub mod Pieces
 pub mod Rows

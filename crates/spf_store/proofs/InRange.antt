@@ -1,18 +1,17 @@
--- What an event in its range says: a bound of a `for` is small, and a place of an array is one of its places.
-use Rattle.std.proofs.Common.{◌≡◌, ℕ, zero, suc, ◌<◌, ℤ, pos, negsuc, neg_ℤ, ◌≤ℤ◌, ◌<ℤ◌, Bool, true, false, ◌&&◌, int_le, int_lt, List, [], ◌∷◌, map, length, slice_get, Some, None, refl, arith, inl, inr}
-use Rattle.std.specs.Prelude.{◌^◌, slice_index_or}
+-- What an event in its range says: a bound of a `for` is small, and a place of an array is that of a cell.
+use Rattle.std.proofs.Common.{◌≡◌, ℕ, zero, suc, ◌+◌, ◌<◌, ◌^◌, ℤ, pos, negsuc, neg_ℤ, ◌≤ℤ◌, ◌<ℤ◌, Bool, true, false, ◌&&◌, int_le, int_lt, List, [], ◌∷◌, length, map, slice_get, slice_index_or, Some, None, refl, arith, inl, inr}
 use Rattle.std.proofs.lemmas.Bool.{cases_Bool}
 use Rattle.std.proofs.lemmas.Float.{T_from_true}
 use Rattle.std.proofs.lemmas.Int.{ints}
 use Rattle.std.specs.Int.Signed.{le_z_yes, lt_z_yes}
-use Rattle.std.specs.List.{AllByRecursion}
 use Rattle.spf_term.specs.Bounded.{IsWithin}
+use Rattle.spf_term.specs.Environment.{Environment}
+use Rattle.spf_kernel.specs.declared.tree.Tree.{Tree}
+use Rattle.spf_space.specs.Layout.{AreAdjacent, cells_in}
 use Rattle.spf_space.specs.declared.shape.ArrayShape.{ArrayShape}
-use Rattle.spf_store.specs.Accesses.{accesses_of}
-use Rattle.spf_store.specs.Event.{Event, Turn, Bound, Read, Access, Store}
-use Rattle.spf_store.specs.FirstFault.{unless_between}
-use Rattle.spf_store.specs.Needs.{Allows}
-use Rattle.spf_exec.proofs.Alike.{May}
+use Rattle.spf_store.specs.FirstFault.{data_length, unless_between}
+use Rattle.spf_store.specs.Shaped.{data_of, starts_of}
+use Rattle.spf_store.proofs.Adjacent.{end_within}
 
 both : (a b : Bool) → (a && b) ≡ true → (a ≡ true) × (b ≡ true)
 both true true h = (refl, refl)
@@ -46,12 +45,9 @@ found (shape ∷ arrays) (suc array) at inside =
     let rest : Found arrays array at = found arrays array at inside in
     record { shape = rest.shape; there = rest.there; inside = rest.inside; start = rest.start; known = omega (arith, rest.known) }
 
--- events that may come on cells that own all, may come on cells that own what they access
-pub allowed : (starts : List ℕ) (owns : ℕ → Bool) (events : List Event) → AllByRecursion (May starts) events →
-    AllByRecursion (λ access. owns access.0 ≡ true) (accesses_of starts events) → AllByRecursion (Allows starts owns) events
-allowed starts owns [] may own = tt
-allowed starts owns (Turn ∷ events) may own = (tt, allowed starts owns events may.1 own)
-allowed starts owns (Bound site value ∷ events) may own = (may.0, allowed starts owns events may.1 own)
-allowed starts owns (Read entry ∷ events) may own = (tt, allowed starts owns events may.1 own)
-allowed starts owns (Access site class array place ∷ events) may own = (record { placed = may.0.placed; own = own.0 }, allowed starts owns events may.1 own.1)
-allowed starts owns (Store assign variables ∷ events) may own = (tt, allowed starts owns events may.1 own)
+-- a place of an array is that of a cell
+pub place_is_cell : (env : Environment) (tree : Tree) → AreAdjacent 0 (data_of env tree) → (array at : ℕ) → at < data_length env (data_of env tree) array → slice_index_or (starts_of env tree) array 0 + at < cells_in (data_of env tree)
+place_is_cell env tree adjacent array at inside =
+    let it = found (data_of env tree) array at inside in
+    let end = end_within 0 (data_of env tree) array it.shape adjacent it.there in
+    omega (arith, it.start, it.inside, end.1)
