@@ -13,13 +13,12 @@ use Rattle.spf_term.specs.declared.term.Term.{Term, out-Term}
 use Rattle.spf_term.proofs.Monos as monos
 use Rattle.spf_kernel.specs.BodySites.{fact_sites, facts_sites}
 use Rattle.spf_kernel.specs.Kept.{Property, KeepsValue, KeepProds, KeepFactors, KeepsFactor}
-use Rattle.spf_kernel.specs.declared.tree.Value.{Value, Value', out-Value, out-roll-Value, Row_of-Prod, end_of-Prod, more_of-Prod, items-the_row-Prod, items_shown-the_row-Prod-1, Row_of-Factor, end_of-Factor, more_of-Factor, items-the_row-Factor, items_shown-the_row-Factor-0}
-use Rattle.spf_kernel.specs.declared.tree.Prod.{Prod}
+use Rattle.spf_kernel.specs.declared.tree.Value.{Value, Value', out-roll-Value, Row_of-Prod, end_of-Prod, more_of-Prod, Row_of-Factor, end_of-Factor, more_of-Factor}
 use Rattle.spf_kernel.specs.declared.tree.Factor.{Factor}
 use Rattle.spf_kernel.specs.declared.tree.Factor.TheVariants as factor_is
 use Rattle.spf_store.specs.Effect as effect
 use Rattle.spf_store.specs.Effect.{fact_value, facts_value, prods_value, signed}
-use Rattle.spf_store.specs.Products.{product, sum}
+use Rattle.spf_store.specs.Products.{sum}
 use Rattle.spf_store.specs.Event.{Read}
 use Rattle.spf_store.specs.Trace.{fact_trace, facts_trace, prods_trace, term_trace, value_trace}
 use Rattle.spf_store.proofs.Rows.{KeepsInTurn, value_is, value_keeps}

@@ -1,17 +1,14 @@
 -- The executor runs the renamed units of the source.
-use Rattle.std.proofs.Common.{◌≡◌, ℕ, zero, suc, ◌%◌, ◌<◌, ℤ, pos, Bool, true, All, None, Some, Option, List, [], ◌∷◌, length, map, slice_get, refl, ap, sym, ◌∙◌, subst, arith, inl, inr, eqb}
+use Rattle.std.proofs.Common.{◌≡◌, ℕ, zero, suc, ◌<◌, ℤ, pos, Bool, true, None, Some, Option, List, [], ◌∷◌, map, slice_get, refl, ap, sym, ◌∙◌, subst, inl, inr, eqb}
 use Rattle.std.specs.Prelude.{IsSome}
 use Rattle.std.proofs.lemmas.Bool.{cases_Bool}
-use Rattle.std.proofs.lemmas.List.{length-map}
-use Rattle.std.proofs.lemmas.Option.{get_or_from_slice_get, slice_get-get_or}
+use Rattle.std.proofs.lemmas.Option.{slice_get-get_or}
 use Rattle.spf_term.specs.Environment.{Environment}
 use Rattle.spf_touch.specs.Actions as action
 use Rattle.spf_touch.specs.Actions.{performed}
 use Rattle.spf_touch.specs.Copy.{copied}
-use Rattle.spf_touch.specs.Frame as frame
-use Rattle.spf_touch.specs.Frame.{Behavior, IsTouched, after_unit, blend_at, class_at}
+use Rattle.spf_touch.specs.Frame.{IsTouched, after_unit, blend_at, class_at}
 use Rattle.spf_touch.specs.Noted.{noted, noted_all}
-use Rattle.spf_touch.specs.Repeated.{touches_at}
 use Rattle.spf_touch.specs.Renaming.{Renaming, renamed_access, renamed_touch, renamed_touches, renamed_units, unpacked}
 use Rattle.spf_touch.specs.RenamingLaw.{at_origins, class_there, same_test}
 use Rattle.spf_touch.specs.declared.class.Class.{Class}
@@ -20,20 +17,17 @@ use Rattle.spf_touch.proofs.Accessed.{accesses_hold}
 use Rattle.spf_touch.proofs.ActionEffects.{actions_effect}
 use Rattle.spf_kernel.specs.declared.tree.Loop.{Loop}
 use Rattle.spf_kernel.specs.declared.tree.Tree.{Tree}
-use Rattle.spf_space.specs.Layout.{iterations}
-use Rattle.spf_space.specs.Units.{loops_units, units_of}
+use Rattle.spf_space.specs.Units.{units_of}
 use Rattle.spf_space.specs.declared.shape.LoopShape.{LoopShape}
 use Rattle.spf_space.specs.declared.unit.Unit.{Unit}
-use Rattle.spf_space.proofs.Standing.{step_length}
-use Rattle.spf_space.proofs.Textual.{split_is_within, stood}
-use Rattle.spf_store.specs.Accesses.{accesses_of, touches_in, touches_of}
+use Rattle.spf_space.proofs.Textual.{stood}
+use Rattle.spf_store.specs.Accesses.{accesses_of}
 use Rattle.spf_store.specs.ActionEffect.{effect_is_performed}
 use Rattle.spf_store.specs.ActionTrace.{items_fit}
 use Rattle.spf_store.specs.Actions.{actions_of}
 use Rattle.spf_store.specs.Behavior.{source_behavior, unit_at}
-use Rattle.spf_store.specs.BehaviorLaw.{actions_at, first_stands, give_is, same_trace, touch_is, touches_are}
+use Rattle.spf_store.specs.BehaviorLaw.{touches_are}
 use Rattle.spf_store.specs.Event.{Event}
-use Rattle.spf_store.specs.FirstFault.{AreInRange, IsInRange, outside, walked}
 use Rattle.spf_store.specs.Needs.{OwnsAll}
 use Rattle.spf_store.specs.Shaped.{loop_shape, loops_of, starts_of}
 use Rattle.spf_store.specs.Source.{unit_effect, unit_trace}

@@ -36,6 +36,8 @@ use std::marker::Model;
 /// The units of all steps of a kernel, in textual order, each run at its new position and on packed cells: seen as the units
 /// of the source and the packings of the arrays. A unit is linear in its events, in the loops, and in what the items of its
 /// loop are written with; one of its touches is linear in the arrays. Neither takes memory.
+///
+/// A runner may go to another thread, and others may read it: `runner_send` and `runner_sync` of proofs/Threads.antt.
 #[derive(Drop)]
 pub struct Runner<'a> {
     kernel: &'a Kernel,

@@ -1,6 +1,6 @@
 -- The units of a kernel, run one after another and one by one.
-use Rattle.std.proofs.Common.{◌≡◌, ℕ, zero, suc, ◌+◌, ◌%◌, ◌<◌, ℤ, Bool, true, All, List, [], length, map, get_or, slice_get, None, Some, refl, ap, sym, ◌∙◌, subst, arith}
-use Rattle.std.proofs.lemmas.List.{ext_get_or, length-map}
+use Rattle.std.proofs.Common.{◌≡◌, ℕ, zero, suc, ◌+◌, ◌<◌, ℤ, Bool, true, List, length, map, get_or, slice_get, Some, refl, ap, sym, ◌∙◌, subst, arith}
+use Rattle.std.proofs.lemmas.List.{ext_get_or}
 use Rattle.std.proofs.lemmas.List.FromFn.{get_or-map-range_with_len, length-map-range_with_len}
 use Rattle.std.proofs.lemmas.Option.{get_or_from_slice_get}
 use Rattle.std.specs.List.{range_with_len}
@@ -8,24 +8,18 @@ use mathlib.Core.Path.{fun_ext}
 use Rattle.spf_term.specs.Environment.{Environment}
 use Rattle.spf_touch.specs.Frame as frame
 use Rattle.spf_touch.specs.Frame.{IsTouched, after_unit, after_units}
-use Rattle.spf_touch.specs.Repeated.{touches_at}
 use Rattle.spf_touch.specs.declared.touch.Touch.{Touch}
 use Rattle.spf_touch.proofs.Accessed.{accesses_hold}
-use Rattle.spf_touch.proofs.ActionEffects.{actions_effect}
 use Rattle.spf_kernel.specs.declared.tree.Tree.{Tree}
-use Rattle.spf_space.specs.Layout.{iterations}
-use Rattle.spf_space.specs.Units.{loops_units, units_of}
+use Rattle.spf_space.specs.Units.{units_of}
 use Rattle.spf_space.specs.declared.unit.Unit.{Unit}
-use Rattle.spf_space.proofs.Standing.{step_length}
-use Rattle.spf_space.proofs.Textual.{split_is_within}
-use Rattle.spf_store.specs.Accesses.{accesses_of, touches_in, touches_of}
-use Rattle.spf_store.specs.FirstFault.{AreInRange, IsInRange, outside, walked}
+use Rattle.spf_store.specs.Accesses.{accesses_of}
+use Rattle.spf_store.specs.FirstFault.{AreInRange, IsInRange}
 use Rattle.spf_store.specs.Shaped.{loops_of, starts_of}
 use Rattle.spf_store.specs.Source.{source_result, unit_effect, unit_trace, units_effect}
 use Rattle.spf_store.proofs.UnitAt.{in_range, unit_after}
-use Rattle.spf_store.specs.ActionEffect.{effect_is_performed}
 use Rattle.spf_store.specs.Behavior.{source_behavior, unit_at}
-use Rattle.spf_store.specs.BehaviorLaw.{actions_at, first_stands, give_is, same_trace, touch_is, touches_are}
+use Rattle.spf_store.specs.BehaviorLaw.{touches_are}
 use Rattle.spf_store.specs.Needs.{OwnsAll}
 
 -- a list is its elements in turn

@@ -1,5 +1,5 @@
 -- Values, told of their products and factors as lists.
-use Rattle.std.proofs.Common.{◌≡◌, ℕ, ◌+◌, ◌<◌, ℤ, pos, ◌+ℤ◌, ◌*ℤ◌, Bool, FitsSigned, w64, List, ◌∷◌, All, length, drop, get_or, refl, ap, sym, ◌∙◌, ◌≤◌, subst, arith}
+use Rattle.std.proofs.Common.{◌≡◌, ℕ, ◌+◌, ◌<◌, ℤ, pos, ◌+ℤ◌, ◌*ℤ◌, FitsSigned, w64, List, ◌∷◌, All, length, drop, get_or, refl, ap, sym, ◌∙◌, ◌≤◌, subst, arith}
 use Rattle.std.proofs.lemmas.Int.{ints}
 use Rattle.std.proofs.lemmas.List.{drop_all, drop_more}
 use Rattle.std.specs.List.{AllByRecursion}
