@@ -7,4 +7,4 @@ mod name_rules;
 pub mod names;
 pub mod notes;
 pub mod rules;
-mod state;
+pub(crate) mod state;

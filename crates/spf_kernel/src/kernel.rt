@@ -1,6 +1,6 @@
 //! A kernel that keeps the rules, and reading one.
 
-ghost use Rattle.std.specs.Prelude.{◌≡◌, ◌<◌, ◌≤◌, ◌^◌, ◌⊎◌, ℕ, length, Result, IfOk, Ok, Err};
+ghost use Rattle.std.specs.Prelude.{◌≡◌, ◌<◌, ◌≤◌, ◌^◌, ◌⊎◌, ℕ, [], length, Result, IfOk, Ok, Err};
 ghost use Rattle.spf_lex.specs.Joined.{joined};
 ghost use Rattle.spf_lex.specs.Tokens.{Tokenized, IsTokenized, texts};
 ghost use Rattle.spf_kernel.specs.declared.fault.KernelFault.{KernelFault};
@@ -8,6 +8,7 @@ ghost use Rattle.spf_kernel.specs.declared.fault.KernelFault.TheVariants.{Memory
 ghost use Rattle.spf_kernel.specs.declared.tree.Tree.{Tree};
 ghost use Rattle.spf_kernel.specs.Bounded.{IsBoundedTree};
 ghost use Rattle.spf_kernel.specs.check.Checked.{Checked};
+ghost use Rattle.spf_kernel.specs.check.State.{IsBehind};
 ghost use Rattle.spf_kernel.specs.Named.{IsNamed};
 ghost use Rattle.spf_kernel.specs.Notes.{kernel_notes};
 ghost use Rattle.spf_kernel.specs.Resolved.{tree_of};
@@ -16,7 +17,8 @@ ghost use Rattle.spf_kernel.specs.Parsed.{IsParsed, IsTextOf, IsAnswer, IsVerdic
 ghost use Rattle.spf_kernel.specs.printing.Printed.{words_of};
 
 use crate::check::names::{Names, Source};
-use crate::check::notes::check;
+use crate::check::notes::note_kernel;
+use crate::check::state::Check;
 use crate::fault::{KernelFault, Unkept};
 use crate::printing::tree::tree_text;
 use crate::raw::RawKernel;
@@ -84,6 +86,29 @@ fn kernel_of(
     Ok(Kernel { tree })
 }
 
+/// What a check that begins comes to at the raw tree.
+fn judged(
+    alloc: Global,
+    tokens: &Tokens,
+    check: &mut Check,
+    raw: &RawKernel,
+) -> Result<Kernel, Unkept>
+    requires stands { (from : ℕ) × (next : ℕ) × StandsAt tokens.now from next raw.now }
+    requires lexed { IsTokenized tokens.now.text tokens.now.spans }
+    requires begins { IsBehind [] check.old }
+    requires same { check.old.texts ≡ texts tokens.now }
+    ensures { IsVerdict tokens.now raw.now result }
+{
+    note_kernel(check, raw)?;
+    match check.finish() {
+        Ok(names) => Ok(kernel_of(alloc, tokens, &names, raw)?),
+        Err(breach) => Err(Unkept::Rule {
+            place: place_from(tokens, breach.place),
+            rule: breach.rule,
+        }),
+    }
+}
+
 /// The kernel of a raw tree that stands somewhere among the tokens, or the first rule that it breaks. Linear in the tree,
 /// and in the bytes of the names on average.
 pub fn judge(alloc: Global, tokens: &Tokens, raw: &RawKernel) -> Result<Kernel, Unkept>
@@ -91,13 +116,7 @@ pub fn judge(alloc: Global, tokens: &Tokens, raw: &RawKernel) -> Result<Kernel, 
     requires lexed { IsTokenized tokens.now.text tokens.now.spans }
     ensures { IsVerdict tokens.now raw.now result }
 {
-    match check(alloc, tokens, raw)? {
-        Ok(names) => Ok(kernel_of(alloc, tokens, &names, raw)?),
-        Err(breach) => Err(Unkept::Rule {
-            place: place_from(tokens, breach.place),
-            rule: breach.rule,
-        }),
-    }
+    judged(alloc, tokens, &mut Check::new(alloc, tokens), raw)
 }
 
 /// Reads the kernel that stands from token `from` on, and gives the number of the token behind it. Linear in the tokens,

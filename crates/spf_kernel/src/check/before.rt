@@ -1,6 +1,6 @@
 //! What the rules ask of the facts before one.
 
-ghost use Rattle.std.specs.Prelude.{◌≡◌, ◌^◌, ◌||◌, List, [], ◌∷◌, ◌++◌, OnOk};
+ghost use Rattle.std.specs.Prelude.{◌≡◌, ◌^◌, ◌||◌, List, [], ◌∷◌, ◌++◌, OnErr, OnOk};
 ghost use Rattle.std.specs.List.{list_any};
 ghost use Rattle.std.specs.Str.{bytes_eq};
 ghost use Rattle.spf_lex.specs.Tokens.{texts};
@@ -49,10 +49,11 @@ impl<'a> Before<'a> {
             || self.loops.contains(name)
     }
 
-    /// Takes the fact to those before. Linear in its name on average.
+    /// Takes the fact to those before. Linear in its name on average. Where memory runs out, the names are as before.
     pub(crate) fn add(&mut self, tokens: &'a Tokens, note: &Note) -> Result<(), NoMemory>
         requires { IsBelow (2 ^ 63) self.old.counts }
-        ensures { OnOk result ((before : List Fact) → self.old ≡ before_of before → self.new ≡ before_of (before ++ fact_of (texts tokens.now) note.now ∷ [])) }
+        ensures added { OnOk result ((before : List Fact) → self.old ≡ before_of before → self.new ≡ before_of (before ++ fact_of (texts tokens.now) note.now ∷ [])) }
+        ensures kept { OnErr result (self.old ≡ record { counts = self.old.counts; params = self.new.params; tables = self.new.tables; data_arrays = self.new.data_arrays; loops = self.new.loops }) }
     {
         self.counts.add(note);
         let name = text_of(tokens, note.token);

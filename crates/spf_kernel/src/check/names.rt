@@ -1,6 +1,6 @@
 //! The names that a kernel declares, and the numbers that they get.
 
-ghost use Rattle.std.specs.Prelude.{◌≡◌, ◌≤◌, [], length, OnOk};
+ghost use Rattle.std.specs.Prelude.{◌≡◌, ◌≤◌, [], length, OnErr, OnOk};
 ghost use Rattle.std.specs.List.{list_any, position_or_len};
 ghost use Rattle.std.specs.Str.{bytes_eq};
 ghost use Rattle.indexmap.specs.IndexSet.{insert_key};
@@ -64,7 +64,8 @@ impl<'a> NameSet<'a> {
 
     /// Adds the name behind the others, if it isn't among them. Linear in the name on average.
     pub(crate) fn insert(&mut self, name: &'a [u8]) -> Result<(), NoMemory>
-        ensures { OnOk result (self.new ≡ insert_key bytes_eq self.old name.now) }
+        ensures inserted { OnOk result (self.new ≡ insert_key bytes_eq self.old name.now) }
+        ensures unchanged { OnErr result (self.new ≡ self.old) }
     {
         match self.names.insert(name) {
             Ok(_) => Ok(()),
@@ -76,9 +77,9 @@ impl<'a> NameSet<'a> {
 /// The declared names of a kernel, at most 64 of each sort.
 #[derive(Drop)]
 pub struct Names<'a> {
-    params: NameSet<'a>,
-    tables: NameSet<'a>,
-    data_arrays: NameSet<'a>,
+    pub params: &'a NameSet<'a>,
+    pub tables: &'a NameSet<'a>,
+    pub data_arrays: &'a NameSet<'a>,
 }
 
 impl<'a> Model for Names<'a> {
@@ -86,29 +87,13 @@ impl<'a> Model for Names<'a> {
 
     ghost Value = { Declared };
 
-    ghost view = { λ names. record { params = names.params; tables = names.tables; data_arrays = names.data_arrays } };
+    ghost view = { λ names. record { params = names.params.now; tables = names.tables.now; data_arrays = names.data_arrays.now } };
 
-    ghost invariant = { λ names. IsShort (record { params = names.params; tables = names.tables; data_arrays = names.data_arrays }) };
+    ghost invariant = { λ names. IsShort (record { params = names.params.now; tables = names.tables.now; data_arrays = names.data_arrays.now }) };
 }
 
 impl<'a> Names<'a> {
-    ghost use Rattle.spf_kernel.specs.Names.{IsShort, number_of};
-
-    /// The names of the three sorts.
-    pub(crate) fn new(
-        params: NameSet<'a>,
-        tables: NameSet<'a>,
-        data_arrays: NameSet<'a>,
-    ) -> Names<'a>
-        requires { IsShort (record { params = params; tables = tables; data_arrays = data_arrays }) }
-        ensures { result ≡ record { params = params.entry; tables = tables.entry; data_arrays = data_arrays.entry } }
-    {
-        Names {
-            params,
-            tables,
-            data_arrays,
-        }
-    }
+    ghost use Rattle.spf_kernel.specs.Names.{number_of};
 
     /// The number of a parameter, from 0, or how many there are. Linear in the name on average.
     pub fn param(&self, name: &[u8]) -> u32

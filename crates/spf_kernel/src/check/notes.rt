@@ -1,16 +1,12 @@
 //! The notes of a raw tree, each checked as it is found.
 #![tactic(auto, using(crate::proofs::Taking::first, crate::proofs::Taking::then, crate::proofs::Taking::none, std::proofs::lemmas::Grind::common_steps))]
 
-ghost use Rattle.std.specs.Prelude.{◌≡◌, ◌<◌, ◌-◌, ◌^◌, true, List, [], ◌∷◌, ◌++◌, length, map, flat_map, OnOk, IfOk};
-ghost use Rattle.spf_lex.specs.Tokens.{texts};
-ghost use Rattle.spf_kernel.specs.check.Checked.{Checked};
+ghost use Rattle.std.specs.Prelude.{◌≡◌, ◌-◌, true, List, [], ◌∷◌, ◌++◌, length, map, flat_map, OnOk, IfOk};
 ghost use Rattle.spf_kernel.specs.check.State.{Takes};
 ghost use Rattle.spf_kernel.specs.Types.{Note, Scope};
 ghost use Rattle.spf_kernel.specs.Notes.{note, mark, mono_head, number_limit, number_notes, ix_monomials, mono_monomials, atom_monomials, monomial_limit, excess_notes, ix_notes, mono_notes, atom_notes, expression_notes, read_notes, fact_notes, value_notes};
 ghost use Rattle.spf_kernel.specs.Notes.{ix_head, conds_head, assign_notes, cond_notes, guard_notes, part_notes, item_notes, loop_notes, cells_notes, param_note, head_notes, decl_notes, kernel_notes};
 
-use crate::check::names::Names;
-use crate::check::rules::Breach;
 use crate::check::state::Check;
 use crate::note::{Says, Scope, Sort, Spot};
 use crate::raw::{
@@ -18,8 +14,7 @@ use crate::raw::{
     RawMono, RawPart, RawSized, RawSummand, RawValue,
 };
 use spf_base::NoMemory;
-use spf_lex::{Token, Tokens};
-use std::alloc::Global;
+use spf_lex::Token;
 
 /// Where an index expression has no monomial, or an `if` no condition, which is nowhere.
 const NO_TOKEN: Token = Token { at: 0, value: 0 };
@@ -432,25 +427,12 @@ impl Noted for RawDecl {
     }
 }
 
+/// Checks the notes of a kernel. Linear in it, and in the bytes of its names on average.
 #[tactic(auto, using(crate::proofs::Taking::then), unfolding(crate::specs::Notes::kernel_notes))]
-fn note_kernel(check: &mut Check, kernel: &RawKernel) -> Result<(), NoMemory>
+pub(crate) fn note_kernel(check: &mut Check, kernel: &RawKernel) -> Result<(), NoMemory>
     ensures { OnOk result (Takes check.old (kernel_notes kernel.now) check.new) }
 {
     note_all(check, Scope::Nothing, kernel.decls.as_slice())?;
     note_head(check, &kernel.steps)?;
     note_all(check, Scope::Nothing, kernel.loops.as_slice())
-}
-
-/// Checks a kernel: its names, or the first breach. Linear in it, and in the bytes of its names on average.
-pub(crate) fn check<'a>(
-    alloc: Global,
-    tokens: &'a Tokens,
-    kernel: &RawKernel,
-) -> Result<Result<Names<'a>, Breach>, NoMemory>
-    ensures checked { IfOk result (Checked (texts tokens.now) (kernel_notes kernel.now)) }
-    ensures few { IfOk result (λ _. length (kernel_notes kernel.now) < 2 ^ 30) }
-{
-    let mut state = Check::new(alloc, tokens);
-    note_kernel(&mut state, kernel)?;
-    Ok(state.finish())
 }

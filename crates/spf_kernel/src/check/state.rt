@@ -23,7 +23,6 @@ const MOST_NOTES: usize = (1 << 30) - 1;
 /// The state of a check behind some notes: what the rules ask of their facts, and the first breach.
 #[derive(Drop)]
 pub(crate) struct Check<'a> {
-    alloc: Global,
     tokens: &'a Tokens<'a>,
     before: Before<'a>,
     best: Option<Breach>,
@@ -51,7 +50,6 @@ impl<'a> Check<'a> {
         ensures texts { result.texts ≡ texts tokens.now }
     {
         Check {
-            alloc,
             tokens,
             before: Before::new(alloc),
             best: None,
@@ -59,7 +57,7 @@ impl<'a> Check<'a> {
         }
     }
 
-    /// Checks one note more. Linear in its name on average. Where memory runs out, the check begins anew.
+    /// Checks one note more. Linear in its name on average. Where memory runs out, the check is as before.
     pub(crate) fn take(&mut self, token: Token, says: Says, scope: Scope) -> Result<(), NoMemory>
         ensures { OnOk result (Takes self.old (note token says scope ∷ []) self.new) }
     {
@@ -68,6 +66,7 @@ impl<'a> Check<'a> {
             return Err(NoMemory);
         }
         let best = with_note(self.best, self.tokens, &self.before, &note);
+        let counts = self.before.counts;
         match self.before.add(self.tokens, &note) {
             Ok(()) => {
                 self.best = best;
@@ -75,20 +74,24 @@ impl<'a> Check<'a> {
                 Ok(())
             }
             Err(error) => {
-                *self = Check::new(self.alloc, self.tokens);
+                self.before.counts = counts;
                 Err(error)
             }
         }
     }
 
     /// What the notes so far come to: the declared names, or the first breach.
-    pub(crate) fn finish(self) -> Result<Names<'a>, Breach>
-        ensures { (notes : List Note) → IsBehind notes self.entry → Checked self.entry.texts notes result }
+    pub(crate) fn finish(&self) -> Result<Names<'_>, Breach>
+        ensures { (notes : List Note) → IsBehind notes self.now → Checked self.now.texts notes result }
     {
-        let Check { before, best, .. } = self;
-        match best {
+        let before = &self.before;
+        match self.best {
             Some(breach) => Err(breach),
-            None => Ok(Names::new(before.params, before.tables, before.data_arrays)),
+            None => Ok(Names {
+                params: &before.params,
+                tables: &before.tables,
+                data_arrays: &before.data_arrays,
+            }),
         }
     }
 }

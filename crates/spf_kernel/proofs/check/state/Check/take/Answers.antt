@@ -17,7 +17,7 @@ invariant_of-self c =
     let taken = note c.args.token c.args.says c.args.scope in
     let old : State = record { texts = texts s.tokens.now; before = s.before; best = s.best; taken = s.taken } in
     let new : State = record { texts = texts s.tokens.now; before = c.add.new.self; best = c.with_note-best.result; taken = s.taken + 1 } in
-    let goes = one_more old new taken refl refl (omega (arith, c.if-self-ge-MOST_NOTES.false)) c.in-Ok.ensures c.with_note-best.ensures in
+    let goes = one_more old new taken refl refl (omega (arith, c.if-self-ge-MOST_NOTES.false)) c.in-Ok.ensures.added c.with_note-best.ensures in
     (c.self.invariant.0 ++ taken ∷ [], goes.1 c.self.invariant.0 c.self.invariant.1)
 
 pub returns-in-Ok : goal.returns-in-Ok
@@ -27,4 +27,4 @@ returns-in-Ok c =
     let old : State = record { texts = texts s.tokens.now; before = s.before; best = s.best; taken = s.taken } in
     let new : State = record { texts = texts s.tokens.now; before = c.add.new.self; best = c.with_note-best.result; taken = s.taken + 1 } in
     subst (λ (state : State). Takes state (taken ∷ []) new) c.self.view_is
-    (one_more old new taken refl refl (omega (arith, c.if-self-ge-MOST_NOTES.false)) c.in-Ok.ensures c.with_note-best.ensures)
+    (one_more old new taken refl refl (omega (arith, c.if-self-ge-MOST_NOTES.false)) c.in-Ok.ensures.added c.with_note-best.ensures)
