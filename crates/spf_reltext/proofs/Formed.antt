@@ -53,7 +53,7 @@ from_not false e = cc
 
 -- ---- numbers of names
 
-place_or_len : {A : Type 0} (p : A → Bool) (xs : List A) → unwrap_or (position p xs) (length xs) ≡ position_or_len p xs
+pub place_or_len : {A : Type 0} (p : A → Bool) (xs : List A) → unwrap_or (position p xs) (length xs) ≡ position_or_len p xs
 place_or_len p xs =
     let e = prefix_len-le-length (λ x. not (p x)) xs in
     grind (arith, common_steps)

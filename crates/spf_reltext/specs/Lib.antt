@@ -5,4 +5,5 @@ pub mod Parsed
 pub mod Printed
 pub mod Productions
 pub mod Resolved
+pub mod RoundTrip
 pub mod Rules

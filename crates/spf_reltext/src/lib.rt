@@ -35,6 +35,7 @@ mod print_sides;
 mod print_term;
 mod printing;
 mod raw;
+mod round_trip;
 mod rules;
 mod terms;
 
@@ -46,4 +47,5 @@ pub use names::{RelNames, names_are_kept};
 pub use parse::{RelTextFault, parse_rel, parse_set};
 pub use print_term::{TermNames, push_term};
 pub use printing::{print_rel, print_set};
+pub use round_trip::printed_is_read;
 pub use rules::{Shape, same_shape};
