@@ -1,26 +1,27 @@
 -- What the raw literal of a printed conjunction means has the same points, and uses no new name.
 use Rattle.std.proofs.Common.{◌≡◌, ◌↔◌, ℕ, ℤ, pos, ◌+ℤ◌, ◌≤ℤ◌, ◌+◌, ◌<◌, ◌^◌, Bool, true, false, List, [], ◌∷◌, ◌++◌, map, flat_map, get_or, All, Option, Some, None, unwrap_or, codes, refl, ap, sym, ◌∙◌, subst, arith}
+use Rattle.std.proofs.lemmas.Bool.Decides.{nat_tests}
 use Rattle.std.proofs.lemmas.Int.{ints}
 use Rattle.std.proofs.lemmas.List.Elements.{All-contains, All-head, All-map, All-tail}
 use Rattle.std.proofs.lemmas.List.FromFn.{length-map-range_with_len}
-use Rattle.std.specs.List.{AllByRecursion}
+use Rattle.std.specs.List.{AllByRecursion, list_any}
 unfoldable use Rattle.spf_base.specs.Wrap.{wrap}
 use Rattle.spf_lex.proofs.Leaves.{join_each}
 use Rattle.spf_rel.proofs.Pairs.{all_from_map, in_map, of_map}
 use Rattle.spf_rel.specs.Meaning.{Meets, MeetsSome}
 use Rattle.spf_rel.specs.Renumbering.{Variables}
 use Rattle.spf_rel.specs.declared.relation.Conj.{Conj}
-use Rattle.spf_reltext.proofs.FreeNames.{Below, are_found, vars}
+use Rattle.spf_reltext.proofs.FreeNames.{Below, are_found, no_repeats, vars}
 use Rattle.spf_reltext.proofs.PrintedLiterals.{Constraint, constraints_of, letters, naming_of, raw_constraint, raw_literal, raw_outs}
 use Rattle.spf_reltext.proofs.PrintedRaws.{raw_term}
 use Rattle.spf_reltext.proofs.SidesPrinted.{amounts_back, constant_short, side_constant_is, side_known, side_monos, side_monos_are, side_named, side_term, sides_weigh}
-use Rattle.spf_reltext.proofs.TermsMeant.{both_kept, constant_is, monos_mean, term_kept, turn, turned, turned_not, wrap_short}
+use Rattle.spf_reltext.proofs.TermsMeant.{AreKept, IsKept, constant_is, monos_mean, names_kept, none_bracketed, term_kept, turn, turned, turned_not, wrap_short}
 use Rattle.spf_reltext.specs.Facts.{constraint_facts, constraints_facts, ix_facts}
 use Rattle.spf_reltext.specs.Names.{fact_names, literal_names, names_of}
 use Rattle.spf_reltext.specs.Printed.{Naming, amount, numbered, variable_text}
 use Rattle.spf_reltext.specs.Resolved.{conj_of, constant_between, constant_of, difference, equal_terms, ix_monos, least_terms}
 use Rattle.spf_reltext.specs.RoundTrip.{HasFreeNames, IsNamed}
-use Rattle.spf_reltext.specs.Rules.{variables}
+use Rattle.spf_reltext.specs.Rules.{breaks_names, differ, names_break, same_shape, shape_of, variables}
 use Rattle.spf_reltext.specs.declared.fact.Fact.{Fact}
 use Rattle.spf_reltext.specs.declared.names.RelNames.{RelNames}
 use Rattle.spf_reltext.specs.declared.print_sides.Side.{Side}
@@ -28,11 +29,17 @@ use Rattle.spf_reltext.specs.declared.print_sides.Side.TheVariants.{Left, Right}
 use Rattle.spf_reltext.specs.declared.raw.RawConstraint.{RawConstraint}
 use Rattle.spf_reltext.specs.declared.raw.RawIx.{RawIx}
 use Rattle.spf_reltext.specs.declared.raw.RawLiteral.{RawLiteral}
+use Rattle.spf_reltext.specs.declared.rules.Shape.{Shape}
+use Rattle.spf_reltext.specs.declared.rules.Shape.TheVariants.{Points, Pairs}
 use Rattle.spf_term.proofs.Monos.{value_is}
 use Rattle.spf_term.proofs.Weights.{weighed, weighed_append}
 use Rattle.spf_term.specs.Environment.{Environment}
 use Rattle.spf_term.specs.Value.{atom_value, value}
 use Rattle.spf_term.specs.declared.term.Term.{Term, out-Term, out-roll-Term}
+
+shape_same : (shape : Shape) → same_shape shape shape ≡ true
+shape_same (Points arity) = grind (arith, nat_tests)
+shape_same (Pairs ins outs) = grind (arith, nat_tests)
 
 module _ (ins : ℕ) (outs : Option ℕ) (names : RelNames) (free : HasFreeNames names) where
   abbrev many_outs : ℕ
@@ -127,21 +134,19 @@ module _ (ins : ℕ) (outs : Option ℕ) (names : RelNames) (free : HasFreeNames
     -- ---- the names
 
     abbrev Kept : List Fact → Type 0
-    Kept facts = fact_names all_vars names facts ≡ names
+    Kept facts = AreKept all_vars names (variable_text ins many_outs) (Below ins many_outs inner few) facts
 
     side_kept : (side : Side) (term : Term) → IsKnown term → IsNamed names term → Kept (ix_facts (raw_side side term))
     side_kept side term known named =
         term_kept all_vars names (variable_text ins many_outs) (Below ins many_outs inner few) (are_found ins many_outs inner few names free) (side_term side term)
         (side_known (Below ins many_outs inner few) side term known) (side_named names side term named)
 
-    constraint_kept : (x : Constraint) → IsKnown x.1 → IsNamed names x.1 → Kept (constraint_facts (raw_constraint naming x))
-    constraint_kept x known named =
-        both_kept all_vars names (variable_text ins many_outs) (Below ins many_outs inner few) (ix_facts (raw_side Left x.1)) (ix_facts (raw_side Right x.1)) (side_kept Left x.1 known named) (side_kept Right x.1 known named)
-
     constraints_kept : (xs : List Constraint) → AllByRecursion (λ (x : Constraint). IsKnown x.1 × IsNamed names x.1) xs → Kept (constraints_facts (raws xs))
-    constraints_kept [] fits = refl
+    constraints_kept [] fits = tt
     constraints_kept (x ∷ xs) fits =
-        both_kept all_vars names (variable_text ins many_outs) (Below ins many_outs inner few) (constraint_facts (raw_constraint naming x)) (constraints_facts (raws xs)) (constraint_kept x fits.0.0 fits.0.1) (constraints_kept xs fits.1)
+        let fact_kept = IsKept all_vars names (variable_text ins many_outs) (Below ins many_outs inner few) in
+        join_each fact_kept (constraint_facts (raw_constraint naming x)) (constraints_facts (raws xs))
+        (join_each fact_kept (ix_facts (raw_side Left x.1)) (ix_facts (raw_side Right x.1)) (side_kept Left x.1 fits.0.0 fits.0.1) (side_kept Right x.1 fits.0.0 fits.0.1)) (constraints_kept xs fits.1)
 
     fit_terms : (equal : Bool) (terms : List Term) → All IsKnown terms → All (IsNamed names) terms → AllByRecursion (λ (x : Constraint). IsKnown x.1 × IsNamed names x.1) (map (λ (term : Term). (equal, term)) terms)
     fit_terms equal [] known named = tt
@@ -201,8 +206,22 @@ module _ (ins : ℕ) (outs : Option ℕ) (names : RelNames) (free : HasFreeNames
             };
           }
 
+    abbrev facts : List Fact
+    facts = constraints_facts (raws conj.inner fits.few (constraints_of conj))
+
+    facts_kept : AreKept (vars ins many_outs conj.inner fits.few) names (variable_text ins many_outs) (Below ins many_outs conj.inner fits.few) facts
+    facts_kept = constraints_kept conj.inner fits.few (constraints_of conj) constraints_fit
+
     literal_kept : literal_names names (raw_literal ins outs names conj) ≡ names
-    literal_kept = ap (λ (vars : List (List ℕ)). fact_names vars names (constraints_facts (raws conj.inner fits.few (constraints_of conj)))) vars_are ∙ constraints_kept conj.inner fits.few (constraints_of conj) constraints_fit
+    literal_kept =
+        ap (λ (vars : List (List ℕ)). fact_names vars names facts) vars_are
+        ∙ names_kept (vars ins many_outs conj.inner fits.few) names (variable_text ins many_outs) (Below ins many_outs conj.inner fits.few) facts facts_kept
+
+    -- rule 23
+    keeps_names : breaks_names (raw_literal ins outs names conj) ≡ false
+    keeps_names =
+        ap (λ (vars : List (List ℕ)). names_break vars facts) vars_are
+        ∙ rw (no_repeats ins many_outs conj.inner fits.few) (none_bracketed (vars ins many_outs conj.inner fits.few) names (variable_text ins many_outs) (Below ins many_outs conj.inner fits.few) facts facts_kept)
 
   abbrev raw_literals : List Conj → List RawLiteral
   raw_literals conjs = map (raw_literal ins outs names) conjs
@@ -229,3 +248,14 @@ module _ (ins : ℕ) (outs : Option ℕ) (names : RelNames) (free : HasFreeNames
       there = in_map (conj_of names) (raw_literals conjs) (raw_literal ins outs names some.conj) (in_map (raw_literal ins outs names) conjs some.conj some.there);
       meets = meets_again some.conj (All-contains Fits conjs some.conj fits some.there) env point some.meets;
     }
+
+  -- ---- rules
+
+  pub keep_names : (conjs : List Conj) → All Fits conjs → list_any breaks_names (raw_literals conjs) ≡ false
+  keep_names [] fits = refl
+  keep_names (conj ∷ conjs) fits = rw (keeps_names conj (All-head Fits conj conjs fits)) (keep_names conjs (All-tail Fits conj conjs fits))
+
+  -- rule 22: all literals have one shape
+  pub one_shape : (conj : Conj) (conjs : List Conj) → differ (shape_of (raw_literal ins outs names conj)) (raw_literals conjs) ≡ false
+  one_shape conj [] = refl
+  one_shape conj (other ∷ conjs) = rw (shape_same (shape_of (raw_literal ins outs names conj))) (one_shape conj conjs)

@@ -1,11 +1,12 @@
 -- The names of variables, and free names of parameters and functions: each is a word for a reader, and is found at its number.
-use Rattle.std.proofs.Common.{◌≡◌, ◌≢◌, ◌⊎◌, ℕ, zero, suc, ◌+◌, ◌-◌, ◌<◌, ◌≤◌, ◌^◌, Bool, true, false, nat_lt, if◌then◌else◌, List, [], ◌∷◌, ◌++◌, length, map, get_or, codes, refl, ap, sym, ◌∙◌, inl, inr, arith, length-append}
+use Rattle.std.proofs.Common.{◌≡◌, ◌≢◌, ◌⊎◌, ℕ, zero, suc, ◌+◌, ◌-◌, ◌<◌, ◌≤◌, ◌^◌, Bool, true, false, nat_lt, cond, if◌then◌else◌, List, [], ◌∷◌, ◌++◌, length, map, get_or, count_by, codes, refl, ap, sym, ◌∙◌, inl, inr, arith, length-append}
 use Rattle.std.proofs.lemmas.Bool.{ltb-false, ltb-true}
+use Rattle.std.proofs.lemmas.Bool.Decides.{nat_tests}
 use Rattle.std.proofs.lemmas.Fmt.{decimal_injective}
 use Rattle.std.proofs.lemmas.List.{get_or_append_left, get_or-append_right}
-use Rattle.std.proofs.lemmas.List.Folds.{list_any-append, list_any_at}
+use Rattle.std.proofs.lemmas.List.Folds.{list_any-append, list_any_at, list_any_none}
 use Rattle.std.proofs.lemmas.List.FromFn.{length-map-range_with_len, get_or-map-range_with_len}
-use Rattle.std.proofs.lemmas.List.Sums.{position_or_len_is}
+use Rattle.std.proofs.lemmas.List.Sums.{position_or_len_is, sum_by-cons}
 use Rattle.std.proofs.lemmas.Option.{unwrap_or-slice_get}
 use Rattle.std.proofs.lemmas.Slice.Eq.{bytes_eq-Decides}
 use Rattle.std.specs.List.{AllByRecursion, list_any, range_with_len}
@@ -23,6 +24,7 @@ use Rattle.spf_reltext.proofs.TermsSpaced.{AreWords}
 use Rattle.spf_reltext.specs.CalcWords.{calc_words}
 use Rattle.spf_reltext.specs.Names.{number_of}
 use Rattle.spf_reltext.specs.Printed.{name_at, numbered, variable_text}
+use Rattle.spf_reltext.specs.Rules.{is_twice, repeats}
 use Rattle.spf_reltext.specs.RoundTrip.{AreFree, HasFreeNames, IsFree}
 use Rattle.spf_reltext.specs.declared.kind.CalcKind.TheVariants as kind
 use Rattle.spf_reltext.specs.declared.names.RelNames.{RelNames}
@@ -105,6 +107,36 @@ one_number letter m n first second same = decimal_injective m n first second cc
 
 one_letter : (a b m n : ℕ) → numbered (a ∷ []) m ≡ numbered (b ∷ []) n → a ≡ b
 one_letter a b m n same = ap (λ (text : List ℕ). get_or text 0 0) same
+
+get_or_default_same : {A : Type 0} (xs : List (List A)) (k : ℕ) (d : List A) → k < length xs → get_or xs k d ≡ get_or xs k []
+get_or_default_same [] k d inside = absurd (omega (arith, inside))
+get_or_default_same (x ∷ xs) zero d inside = refl
+get_or_default_same (x ∷ xs) (suc k) d inside = get_or_default_same xs k d (omega (arith, inside))
+
+-- one more name
+counted : (p : List ℕ → Bool) (x : List ℕ) (xs : List (List ℕ)) (b : Bool) (n : ℕ) → p x ≡ b → cond b 1 0 ≡ n → count_by p (x ∷ xs) ≡ n + count_by p xs
+counted p x xs b n passes is = sum_by-cons (λ x. cond (p x) 1 0) x xs ∙ ap (λ (first : ℕ). first + count_by p xs) (ap (λ (b : Bool). cond {A = ℕ} b 1 0) passes ∙ is)
+
+none_counted : (p : List ℕ → Bool) (xs : List (List ℕ)) → ((e : ℕ) → e < length xs → p (get_or xs e []) ≡ false) → count_by p xs ≡ 0
+none_counted p [] none = refl
+none_counted p (x ∷ xs) none = omega (arith, counted p x xs false 0 (none 0 (omega arith)) refl, none_counted p xs (λ e inside. none (suc e) (omega (arith, inside))))
+
+-- where all others fail, one passes at most
+counted_once : (p : List ℕ → Bool) (xs : List (List ℕ)) (k : ℕ) → ((e : ℕ) → e < length xs → e ≢ k → p (get_or xs e []) ≡ false) → count_by p xs ≤ 1
+counted_once p [] k others = omega arith
+counted_once p (x ∷ xs) zero others =
+    let rest = none_counted p xs (λ e inside. others (suc e) (omega (arith, inside)) (λ same. omega (arith, same))) in
+    by (p x) refl rest
+  where
+    by : (b : Bool) → p x ≡ b → count_by p xs ≡ 0 → count_by p (x ∷ xs) ≤ 1
+    by true e rest = omega (arith, counted p x xs true 1 e refl, rest)
+    by false e rest = omega (arith, counted p x xs false 0 e refl, rest)
+counted_once p (x ∷ xs) (suc k) others =
+    let rest = counted_once p xs k (λ e inside differ. others (suc e) (omega (arith, inside)) (λ same. differ (omega (arith, same)))) in
+    omega (arith, rest, counted p x xs false 0 (others 0 (omega arith) (λ same. omega (arith, same))) refl)
+
+not_twice : (n : ℕ) → n ≤ 1 → nat_lt 1 n ≡ false
+not_twice n once = grind (arith, nat_tests)
 
 module _ (ins outs inner : ℕ) (few : ins + outs + inner < 2 ^ 32) where
   abbrev pub vars : List (List ℕ)
@@ -197,6 +229,17 @@ module _ (ins outs inner : ℕ) (few : ins + outs + inner < 2 ^ 32) where
       found_at vars (variable_text ins outs n) n (omega (arith, vars_count, below)) (variable_at n below)
       (λ d before same. let e = one_variable n d below (omega (arith, before, below)) (same ∙ sym (variable_at d (omega (arith, before, below)))) in omega (arith, e, before))
 
+  -- no variable stands twice
+  pub no_repeats : repeats vars ≡ false
+  no_repeats =
+      list_any_none (is_twice vars) vars (λ k d inside.
+      let small : k < ins + outs + inner = omega (arith, inside, vars_count) in
+      let name = get_or vars k d in
+      let is : name ≡ variable_text ins outs k = get_or_default_same vars k d inside ∙ sym (variable_at k small) in
+      not_twice (count_by (bytes_eq name) vars) (counted_once (bytes_eq name) vars k (λ e within differ.
+      let below : e < ins + outs + inner = omega (arith, within, vars_count) in
+      other_bytes name (get_or vars e []) (λ same. differ (one_variable e k below small (variable_at e below ∙ sym same ∙ is))))))
+
   none_in : (name letter : List ℕ) (ns : List ℕ) → ((n : ℕ) → name ≢ numbered letter n) → list_any (bytes_eq name) (map (numbered letter) ns) ≡ false
   none_in name letter [] differ = refl
   none_in name letter (n ∷ ns) differ = rw (other_bytes name (numbered letter n) (differ n)) (none_in name letter ns differ)
@@ -221,5 +264,5 @@ module _ (ins outs inner : ℕ) (few : ins + outs + inner < 2 ^ 32) where
     are_found = record {
       variables = variable_found;
       params = λ n h. let is = free_found names.params free.params n h in (no_variable (name_at names.params n) (free_at names.params free.params n h), is.0, is.1);
-      funs = λ n h. free_found names.funs free.funs n h;
+      funs = λ n h. let is = free_found names.funs free.funs n h in (no_variable (name_at names.funs n) (free_at names.funs free.funs n h), is.0, is.1);
     }

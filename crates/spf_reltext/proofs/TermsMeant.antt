@@ -1,12 +1,12 @@
 -- The raw term of a printed term means that term, with its sign or with the opposite one, and uses no new name.
-use Rattle.std.proofs.Common.{◌≡◌, ℕ, ℤ, pos, negsuc, ◌+ℤ◌, neg_ℤ, ◌<◌, ◌==◌, Bool, true, false, not, ◌&&◌, if◌then◌else◌, List, [], ◌∷◌, ◌++◌, length, map, flat_map, fold, None, unsigned_abs, refl, ap, sym, ◌∙◌, w64, true≢false, arith}
+use Rattle.std.proofs.Common.{◌≡◌, ℕ, ℤ, pos, negsuc, ◌+ℤ◌, neg_ℤ, ◌<◌, ◌==◌, Bool, true, false, not, ◌&&◌, if◌then◌else◌, List, [], ◌∷◌, ◌++◌, length, map, flat_map, fold, None, unsigned_abs, refl, ap, sym, ◌∙◌, subst, w64, true≢false, arith}
 use Rattle.std.proofs.lemmas.Bool.Decides.{nat_tests}
-use Rattle.std.proofs.lemmas.Grind.{fold-append}
 use Rattle.std.proofs.lemmas.Int.{int_wrap_fits, fits_signed_from_abs, ints}
 use Rattle.std.specs.Int.{is_negative}
-use Rattle.std.specs.List.{list_any}
+use Rattle.std.specs.List.{AllByRecursion, list_any}
 use Rattle.std.specs.Str.{bytes_eq}
 unfoldable use Rattle.spf_base.specs.Wrap.{wrap}
+use Rattle.spf_lex.proofs.Leaves.{join_each}
 use Rattle.spf_rel.specs.Renumbering.{AtomVariables, SumVariables, Variables}
 use Rattle.spf_reltext.proofs.FactEquations.{ix_facts_are, mono_facts}
 use Rattle.spf_reltext.proofs.PrintedRaws.{is_left_out, raw_atom, raw_constant, raw_row, raw_term}
@@ -16,6 +16,7 @@ use Rattle.spf_reltext.specs.Names.{fact_names, noted, number_of}
 use Rattle.spf_reltext.specs.Printed.{Naming, name_at}
 use Rattle.spf_reltext.specs.Productions.{product, signed as raw_signed}
 use Rattle.spf_reltext.specs.Resolved.{constant_of, ix_monos, mono_of, monomial, opposite, part_of, part_with, plain_atom, signed, term_of}
+use Rattle.spf_reltext.specs.Rules.{is_bracketed}
 use Rattle.spf_reltext.specs.RoundTrip.{AreNamed, AtomIsNamed, IsNamed, IsShort}
 use Rattle.spf_reltext.specs.declared.fact.Fact.{Fact}
 use Rattle.spf_reltext.specs.declared.fact.Role.{Role}
@@ -73,17 +74,25 @@ module _ (vars : List (List ℕ)) (names : RelNames) (variable : ℕ → List �
   pub record AreFound : Type 0 where
     pub variables : (n : ℕ) → Known n → (list_any (bytes_eq (variable n)) vars ≡ true) × (number_of vars (variable n) ≡ n)
     pub params : (n : ℕ) → n < length names.params → (list_any (bytes_eq (name_at names.params n)) vars ≡ false) × (list_any (bytes_eq (name_at names.params n)) names.params ≡ true) × (number_of names.params (name_at names.params n) ≡ n)
-    pub funs : (n : ℕ) → n < length names.funs → (list_any (bytes_eq (name_at names.funs n)) names.funs ≡ true) × (number_of names.funs (name_at names.funs n) ≡ n)
+    pub funs : (n : ℕ) → n < length names.funs → (list_any (bytes_eq (name_at names.funs n)) vars ≡ false) × (list_any (bytes_eq (name_at names.funs n)) names.funs ≡ true) × (number_of names.funs (name_at names.funs n) ≡ n)
 
   abbrev naming : Naming
   naming = record { variable = variable; param = name_at names.params; fun = name_at names.funs }
 
-  -- the facts use no new name
-  abbrev pub AreKept : List Fact → Type 0
-  AreKept facts = fact_names vars names facts ≡ names
+  -- the fact uses no new name, and no variable has brackets there
+  abbrev pub IsKept : Fact → Type 0
+  IsKept fact = (noted vars names fact.role ≡ names) × (is_bracketed vars fact.role ≡ false)
 
-  pub both_kept : (a b : List Fact) → AreKept a → AreKept b → AreKept (a ++ b)
-  both_kept a b first second = fold-append (λ (names : RelNames) (fact : Fact). noted vars names fact.role) names a b ∙ ap (λ (names : RelNames). fact_names vars names b) first ∙ second
+  abbrev pub AreKept : List Fact → Type 0
+  AreKept facts = AllByRecursion IsKept facts
+
+  pub names_kept : (facts : List Fact) → AreKept facts → fact_names vars names facts ≡ names
+  names_kept [] kept = refl
+  names_kept (fact ∷ facts) kept = ap (λ (names : RelNames). fact_names vars names facts) kept.0.0 ∙ names_kept facts kept.1
+
+  pub none_bracketed : (facts : List Fact) → AreKept facts → list_any (λ (fact : Fact). is_bracketed vars fact.role) facts ≡ false
+  none_bracketed [] kept = refl
+  none_bracketed (fact ∷ facts) kept = rw kept.0.1 (none_bracketed facts kept.1)
 
   module _ (found : AreFound) where
     variable_means : (n : ℕ) → Known n → plain_atom vars names (variable n) ≡ Atom.Var n
@@ -99,32 +108,31 @@ module _ (vars : List (List ℕ)) (names : RelNames) (variable : ℕ → List �
     param_kept n inside = let is = found.params n inside in rw (is.0, is.1) refl
 
     fun_kept : (n : ℕ) → n < length names.funs → noted vars names (Role.Entry (name_at names.funs n)) ≡ names
-    fun_kept n inside = let is = found.funs n inside in rw is.0 refl
+    fun_kept n inside = let is = found.funs n inside in rw is.1 refl
 
     -- ---- the facts
 
     constant_kept : (first : Bool) (c : ℤ) → AreKept (flat_map mono_facts (raw_constant first c))
     constant_kept first c = by (is_left_out first c) where
       by : (b : Bool) → AreKept (flat_map mono_facts (if b then [] else raw_signed (is_negative c) (product (unsigned_abs c) None) ∷ []))
-      by true = refl
-      by false = refl
+      by true = tt
+      by false = ((refl, refl), tt)
 
     mutual
       pub term_kept : (term : Term) → Variables Known term → IsNamed names term → AreKept (ix_facts (raw_term naming term))
       term_kept (Term' shape monos constant) known named =
           let raw = raw_row naming true monos constant in
-          ap (fact_names vars names) (ix_facts_are (roll-RawIx (record { monos = raw })) ∙ ap (λ ix. flat_map mono_facts ix.monos) (out-roll-RawIx (record { monos = raw }))) ∙ row_kept true monos constant known named.0
+          subst AreKept (sym (ix_facts_are (roll-RawIx (record { monos = raw })) ∙ ap (λ ix. flat_map mono_facts ix.monos) (out-roll-RawIx (record { monos = raw })))) (row_kept true monos constant known named.0)
 
       row_kept : {n : _} (first : Bool) (row : Row_of-Mono n) (constant : ℤ) → SumVariables Known row → AreNamed names row → AreKept (flat_map mono_facts (raw_row naming first row constant))
       row_kept first end_of-Mono constant known named = constant_kept first constant
       row_kept first (more_of-Mono coef atom others) constant known named =
-          both_kept (atom_facts (unsigned_abs coef) (raw_atom naming atom)) (flat_map mono_facts (raw_row naming false others constant)) (atom_kept (unsigned_abs coef) atom known.0 named.1) (row_kept false others constant known.1 named.2)
+          join_each IsKept (atom_facts (unsigned_abs coef) (raw_atom naming atom)) (flat_map mono_facts (raw_row naming false others constant)) (atom_kept (unsigned_abs coef) atom known.0 named.1) (row_kept false others constant known.1 named.2)
 
       atom_kept : (number : ℕ) (atom : Atom) → AtomVariables Known atom → AtomIsNamed names atom → AreKept (atom_facts number (raw_atom naming atom))
-      atom_kept number (Atom.Var n) known named = variable_kept n known
-      atom_kept number (Atom.Param n) known named = param_kept n named
-      atom_kept number (Atom.App fun arg) known named =
-          ap (λ (names : RelNames). fact_names vars names (ix_facts (raw_term naming arg))) (fun_kept fun named.0) ∙ term_kept arg known named.1
+      atom_kept number (Atom.Var n) known named = ((variable_kept n known, refl), tt)
+      atom_kept number (Atom.Param n) known named = ((param_kept n named, refl), tt)
+      atom_kept number (Atom.App fun arg) known named = ((fun_kept fun named.0, (found.funs fun named.0).0), term_kept arg known named.1)
 
     -- ---- the meaning
 
@@ -208,7 +216,7 @@ module _ (vars : List (List ℕ)) (names : RelNames) (variable : ℕ → List �
       atom_means flips coef (Atom.Var n) known named short = mono_means flips coef (Atom.Var n) _ short (variable_means n known)
       atom_means flips coef (Atom.Param n) known named short = mono_means flips coef (Atom.Param n) _ short (param_means n named)
       atom_means flips coef (Atom.App fun arg) known named short =
-          mono_means flips coef (Atom.App fun arg) _ short (λ i. Atom.App ((found.funs fun named.0).1 i) (term_means arg known named.1 i))
+          mono_means flips coef (Atom.App fun arg) _ short (λ i. Atom.App ((found.funs fun named.0).2 i) (term_means arg known named.1 i))
 
     pub monos_mean : (flips : Bool) (term : Term) → Variables Known term → IsNamed names term → ix_monos vars names flips (raw_term naming term) ≡ turned flips (out-Term term).monos
     unfolding out-Term denote.Hole.Carrier.out

@@ -10,7 +10,8 @@
 //! at a token, or the exact fault of syntax there, or the least rule that is broken (`IsRelAnswer`, `IsSetAnswer`); what they
 //! give is well-formed, names that there were keep their numbers (`names_are_kept`), and literals are read in one way
 //! (`one_list_of_literals`). `print_rel` and `print_set` give the
-//! text of a relation or set (`Printed`), in which variables are named X, Y and E by what they are. `push_term` prints a
+//! text of a relation or set (`Printed`), in which variables are named X, Y and E by what they are, and that text is read
+//! with the same meaning (`printed_is_read`). `push_term` prints a
 //! term alone, however its caller writes variables, parameters and functions: that is a `TermNames`, whose meaning is a
 //! `Naming`. A `Layout` writes those of sets and relations.
 //!
