@@ -1,5 +1,5 @@
 # What a user and a change call. `rt` is the toolchain's command; it proves before it builds.
-.PHONY: run test spf try cases bench
+.PHONY: run test spf plain try cases bench
 
 # The program, proved and built, on the first example.
 run:
@@ -16,6 +16,12 @@ spf:
 	mkdir -p bin
 	cp crates/spf_prog/out/spf_prog bin/spf
 
+# The plain interpreter of the source loops as bin/spf_plain, for comparison.
+plain:
+	cd crates/spf_plain && rt run < stdin > /dev/null
+	mkdir -p bin
+	cp crates/spf_plain/out/spf_plain bin/spf_plain
+
 # A build without proofs on the first example, for a first look.
 try:
 	cd crates/spf_prog && rt try -- run < ../../examples/increment.spf
@@ -24,11 +30,12 @@ try:
 cases: spf
 	cases/run bin/spf
 
-# How fast the proved program reads, beside `wc -w`, how fast it walks and runs, what layers, orders and tiles cost, and how fast it
-# calculates.
-bench: spf
+# How fast the proved program reads, beside `wc -w`, how fast it walks and runs, what each part of a run costs, beside the plain
+# source loops, what layers, orders and tiles cost, and how fast it calculates.
+bench: spf plain
 	bench/reading bin/spf
 	bench/running bin/spf
+	bench/executing bin/spf bin/spf_plain
 	bench/ordering bin/spf
 	bench/tiling bin/spf
 	bench/calculating bin/spf

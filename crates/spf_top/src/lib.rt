@@ -28,3 +28,5 @@ mod words;
 
 pub use commands::command;
 pub use outcome::{Outcome, What, status};
+pub use stages::kept;
+pub use text::arrays_text;
