@@ -211,8 +211,8 @@ fn a_33rd_statement_is_refused(rt: HostRuntime) -> Result<(), Fail> {
 }
 
 /// A relation that reads a table, composed with itself as often as there are names: what came out each time has the next name.
-/// Then the last one is written as a function.
-fn doubled(alloc: Global, names: &[u8]) -> Result<Vec<u8>, Fail> {
+/// Then a relation made of these is written as a function.
+fn doubled(alloc: Global, names: &[u8], relation: &[u8]) -> Result<Vec<u8>, Fail> {
     let mut text = Vec::new(alloc);
     text.extend_from_slice(b"calc 1 let a = { [i] -> [j] : j = p[i] };")?;
     let mut last = b'a';
@@ -227,7 +227,7 @@ fn doubled(alloc: Global, names: &[u8]) -> Result<Vec<u8>, Fail> {
         last = *name;
     }
     text.extend_from_slice(b" function ")?;
-    text.push(last)?;
+    text.extend_from_slice(relation)?;
     text.extend_from_slice(b";")?;
     Ok(text)
 }
@@ -251,10 +251,20 @@ fn nested(alloc: Global, depth: usize) -> Result<Vec<u8>, Fail> {
 #[test]
 fn terms_nest_thousands_deep(rt: HostRuntime) -> Result<(), Fail> {
     let alloc = rt.alloc();
-    let most = results_of(&rt, alloc, doubled(alloc, b"bcdefghijklmn")?.as_slice())?;
-    assert_eq!(rt; most.as_slice(), nested(alloc, 8192)?.as_slice());
+    // 8,192, 4,096, 2,048, 1,024, 512 and 128 reads of the table, one in another
+    let parts = b"compose(n, compose(m, compose(l, compose(k, compose(j, h)))))";
+    let deep = results_of(
+        &rt,
+        alloc,
+        doubled(alloc, b"bcdefghijklmn", parts)?.as_slice(),
+    )?;
+    assert_eq!(rt; deep.as_slice(), nested(alloc, 16_000)?.as_slice());
     // 16,384 applications, and then X0 and Y0 beside them, are more monomials than may be
-    let past = refusal_of(&rt, alloc, doubled(alloc, b"bcdefghijklmno")?.as_slice())?;
+    let past = refusal_of(
+        &rt,
+        alloc,
+        doubled(alloc, b"bcdefghijklmno", b"o")?.as_slice(),
+    )?;
     assert_eq!(rt; past, Refusal::Rule(15, 25));
     Ok(())
 }
