@@ -15,7 +15,7 @@
 //! on spf_base for names and places. Upward it gives one contract, that of `command`: what is written for which words and
 //! input, or why it is refused (`answers`, `AnswersInput`), with which words (`AnswersWords`), and when each outcome comes. A
 //! call is linear in the bytes, in the visits and in what it writes, beside what the steps of the script and the order of the
-//! tiles cost.
+//! tiles cost. `kept` and `arrays_text` are for the program of the plain interpreter, which reads and writes in the same way.
 #![tactic(auto)]
 
 mod commands;
