@@ -5,10 +5,10 @@
 run:
 	cd crates/spf_prog && rt run -- run < ../../examples/increment.spf
 
-# All tests: the merge gate (proofs, must-fail edits, unit tests, stored runs), and then the program's own cases.
+# All tests: the merge gate (proofs, must-fail edits, unit tests, stored runs), and then the program's own cases on the
+# program that the gate built.
 test:
-	rt ci
-	$(MAKE) --no-print-directory cases
+	.ci/run
 
 # The proved program as bin/spf.
 spf:
